@@ -1,0 +1,5 @@
+pub mod Interval
+pub mod Hull
+pub mod Rounding
+pub mod Operation
+pub mod Term

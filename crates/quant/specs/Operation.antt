@@ -1,0 +1,35 @@
+-- The operations on numbers that unit equations are made of.
+use Rattle.std.specs.Prelude.{ℤ, pos, ◌+ℤ◌, ◌-ℤ◌, ◌*ℤ◌}
+use Rattle.std.specs.Int.{int_min, int_max}
+use Rattle.quant.specs.Interval.{Interval}
+use Rattle.quant.specs.Rounding.{Rounding, quotient, divisor}
+
+-- ppm of a whole
+abbrev pub million : ℤ
+million = pos 1000000
+
+-- the nearest number of the interval
+unfoldable pub clamp : Interval → ℤ → ℤ
+clamp limits a = int_max limits.lo (int_min a limits.hi)
+
+-- the part of a whole that m is: 0 at least, the whole at most
+abbrev pub part : ℤ → ℤ → ℤ
+part whole m = int_max (pos 0) (int_min m whole)
+
+-- g ppm of a
+unfoldable pub share : Rounding → ℤ → ℤ → ℤ
+share r a g = quotient r (a *ℤ part million g) million
+
+-- what stays of a when g ppm of it is taken
+unfoldable pub keep : Rounding → ℤ → ℤ → ℤ
+keep r a g = a -ℤ share r a g
+
+-- c, of which m parts in v are replaced by d
+unfoldable pub blend : Rounding → ℤ → ℤ → ℤ → ℤ → ℤ
+blend r c d m v =
+    let replaced = part (divisor v) m in
+    quotient r (c *ℤ (divisor v -ℤ replaced) +ℤ d *ℤ replaced) (divisor v)
+
+-- the volumes that a blend may have: from 1 to 10^13
+abbrev pub volumes : Interval
+volumes = record { lo = pos 1; hi = pos 10000000000000 }

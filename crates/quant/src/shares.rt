@@ -1,0 +1,56 @@
+ghost use Rattle.std.specs.Prelude.{◌≡◌, pos};
+ghost use Rattle.quant.specs.Interval.{Holds, IsInside, around, join, point};
+ghost use Rattle.quant.specs.Hull.{hull2, IsHull, IsValue2};
+ghost use Rattle.quant.specs.Rounding.{Floor};
+ghost use Rattle.quant.specs.Operation.{share, keep};
+
+use crate::band::Band;
+use crate::quotients::floor_quotient;
+
+/// The ppm of a whole.
+pub const MILLION: i64 = 1_000_000;
+
+/// `g` ppm of `a`, rounded down: floor(a g' / 1,000,000), where g' is `g` clamped to 0..1,000,000.
+pub fn share(a: i64, g: i64) -> i64
+    requires { Holds (around 10000000000000000) a }
+    ensures value { result ≡ share Floor a g }
+    ensures between { Holds (join (point (pos 0)) (point a)) result }
+{
+    let part = g.clamp(0, MILLION);
+    floor_quotient(i128::from(a) * i128::from(part), MILLION)
+}
+
+/// What stays of `a` when `share(a, g)` is taken from it.
+pub fn keep(a: i64, g: i64) -> i64
+    requires { Holds (around 10000000000000000) a }
+    ensures value { result ≡ keep Floor a g }
+    ensures between { Holds (join (point (pos 0)) (point a)) result }
+{
+    a - share(a, g)
+}
+
+/// `share` over bands. It rises with `a`, and with `g` where `a` is not negative.
+pub fn share_band(a: Band, g: Band) -> Band
+    requires { IsInside a (around 10000000000000000) }
+    ensures hull { result ≡ hull2 (share Floor) a g }
+    ensures exact { IsHull (IsValue2 (share Floor) a g) result }
+    ensures between { IsInside result (join (point (pos 0)) a) }
+{
+    Band {
+        lo: share(a.lo, if a.lo >= 0 { g.lo } else { g.hi }),
+        hi: share(a.hi, if a.hi >= 0 { g.hi } else { g.lo }),
+    }
+}
+
+/// `keep` over bands. It rises with `a`, and falls with `g` where `a` is not negative.
+pub fn keep_band(a: Band, g: Band) -> Band
+    requires { IsInside a (around 10000000000000000) }
+    ensures hull { result ≡ hull2 (keep Floor) a g }
+    ensures exact { IsHull (IsValue2 (keep Floor) a g) result }
+    ensures between { IsInside result (join (point (pos 0)) a) }
+{
+    Band {
+        lo: keep(a.lo, if a.lo >= 0 { g.hi } else { g.lo }),
+        hi: keep(a.hi, if a.hi >= 0 { g.lo } else { g.hi }),
+    }
+}
