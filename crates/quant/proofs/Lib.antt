@@ -1,3 +1,4 @@
+pub mod Bands
 pub mod Hulls
 pub mod Operations
 pub mod Terms

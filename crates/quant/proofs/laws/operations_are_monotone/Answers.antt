@@ -1,0 +1,21 @@
+-- Each law is a lemma on the operation.
+use Rattle.quant.proofs.Operations.{clamp-monotone, sum-monotone, difference-monotone, share-monotone, keep-monotone, blend-monotone}
+use Rattle.quant.proofs.laws.operations_are_monotone.Goals as goal
+
+pub returns-clause-add : goal.returns-clause-add
+returns-clause-add c = sum-monotone
+
+pub returns-clause-sub : goal.returns-clause-sub
+returns-clause-sub c = difference-monotone
+
+pub returns-clause-share : goal.returns-clause-share
+returns-clause-share c = share-monotone
+
+pub returns-clause-keep : goal.returns-clause-keep
+returns-clause-keep c = keep-monotone
+
+pub returns-clause-blend : goal.returns-clause-blend
+returns-clause-blend c = blend-monotone
+
+pub returns-clause-clamp : goal.returns-clause-clamp
+returns-clause-clamp c = clamp-monotone

@@ -1,0 +1,31 @@
+-- The least difference takes the greatest number from the least, the greatest the least from the greatest.
+use Rattle.std.proofs.Common.{◌-ℤ◌, arith}
+use Rattle.std.proofs.lemmas.Int.{ints}
+use Rattle.quant.specs.Interval.{IsBand}
+use Rattle.quant.specs.Hull.{hull2, IsValue2}
+use Rattle.quant.proofs.Bands.{difference-hull, exact_of, ends_same}
+use Rattle.quant.proofs.Hulls.{hull2-exact}
+use Rattle.quant.proofs.Operations.{difference-monotone}
+use Rattle.quant.proofs.sums.sub_band.Goals as goal
+
+pub invariant_of-result : goal.invariant_of-result
+invariant_of-result c =
+    let ea = ends_same _ c.args.a c.a.view_is in
+    let eb = ends_same _ c.args.b c.b.view_is in
+    omega (arith, ints)
+
+pub returns-clause-hull : goal.returns-clause-hull
+returns-clause-hull c =
+    let ea = ends_same _ c.args.a c.a.view_is in
+    let eb = ends_same _ c.args.b c.b.view_is in
+    difference-hull c.args.a c.args.b _ (record { ordered = omega (arith, ints) }) (record { ordered = omega (arith, ints) })
+    (omega (arith, ints)) (omega (arith, ints))
+
+pub returns-clause-exact : goal.returns-clause-exact
+returns-clause-exact c =
+    let ea = ends_same _ c.args.a c.a.view_is in
+    let eb = ends_same _ c.args.b c.b.view_is in
+    let a : IsBand c.args.a = record { ordered = omega (arith, ints) } in
+    let b : IsBand c.args.b = record { ordered = omega (arith, ints) } in
+    exact_of (IsValue2 ◌-ℤ◌ c.args.a c.args.b) _ (hull2 ◌-ℤ◌ c.args.a c.args.b) (returns-clause-hull c)
+    (hull2-exact ◌-ℤ◌ c.args.a c.args.b a b difference-monotone)
