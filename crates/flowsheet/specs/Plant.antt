@@ -52,7 +52,7 @@ rank_of plant s = origin_rank plant (origin_of plant s)
 -- the origin is an output that the unit has
 abbrev pub IsOrigin : Plant → Origin → Type 0
 IsOrigin plant (feed f) = Unit {0}
-IsOrigin plant (port u p) = u < length plant.units
+IsOrigin plant (port u p) = (u < length plant.units) × (p < length (unit_at plant u).view)
 
 -- Units read streams that are there, and streams come from units that are there. A register unit has rank 0. An instant
 -- unit has 1 plus the greatest rank among the streams that it reads, so none reaches itself through instant units alone.
@@ -62,5 +62,5 @@ pub record IsRanked (plant : Plant) : Type 0 where
   pub origins : (s : ℕ) → s < length plant.streams → IsOrigin plant (origin_of plant s)
   pub registers : (u : ℕ) → u < length plant.units → (unit_at plant u).instant ≡ false → slice_index plant.ranks u ≡ 0
   pub instants : (u : ℕ) → u < length plant.units → (unit_at plant u).instant ≡ true →
-    slice_index plant.ranks u ≡ suc (fold max 0 (map (rank_of plant) (unit_at plant u).reads))
+      slice_index plant.ranks u ≡ suc (fold max 0 (map (rank_of plant) (unit_at plant u).reads))
   pub top : plant.top ≡ fold max 0 plant.ranks

@@ -1,8 +1,7 @@
 -- The run of a plant, by recursion on places: the tick, and at one tick the rank. The interval run reads it on bands.
 use Rattle.std.specs.Prelude.{ℕ, zero, suc, List, []}
-use Rattle.quant.specs.Interval.{Interval}
 use Rattle.flowsheet.specs.Plant.{Plant, Origin, feed, port, unit_at, origin_of}
-use Rattle.flowsheet.specs.Reading.{Reader, on_bands, inputs_of, shown, stepped}
+use Rattle.flowsheet.specs.Reading.{Reader, inputs_of, shown, stepped}
 
 module _ {A : Type 0} (read : Reader A) (plant : Plant) where
   -- a stream at one tick, by what it comes from: the feeds, or the states and the inputs of its unit
@@ -15,11 +14,16 @@ module _ {A : Type 0} (read : Reader A) (plant : Plant) where
   streams_to feeds states zero s = from_origin feeds states (λ u. []) (origin_of plant s)
   streams_to feeds states (suc r) s = from_origin feeds states (λ u. inputs_of (unit_at plant u) (streams_to feeds states r)) (origin_of plant s)
 
-  -- the states of each unit at a tick, from those carried into the first, and the streams at a tick
-  abbrev mutual
-    pub run_states : (ℕ → List A) → (ℕ → ℕ → List A) → ℕ → ℕ → List A
-    run_states carried feeds zero u = carried u
-    run_states carried feeds (suc t) u = stepped read (unit_at plant u) (run_states carried feeds t u) (inputs_of (unit_at plant u) (run_streams carried feeds t))
+  -- the streams at one tick, from the feeds and the states at this tick
+  abbrev pub streams_at : (ℕ → List A) → (ℕ → List A) → ℕ → List A
+  streams_at feeds states = streams_to feeds states plant.top
 
-    pub run_streams : (ℕ → List A) → (ℕ → ℕ → List A) → ℕ → ℕ → List A
-    run_streams carried feeds t = streams_to (feeds t) (run_states carried feeds t) plant.top
+  -- the states of each unit at a tick, from those carried into the first tick
+  abbrev pub run_states : (ℕ → List A) → (ℕ → ℕ → List A) → ℕ → ℕ → List A
+  run_states carried feeds zero u = carried u
+  run_states carried feeds (suc t) u =
+      stepped read (unit_at plant u) (run_states carried feeds t u) (inputs_of (unit_at plant u) (streams_at (feeds t) (run_states carried feeds t)))
+
+  -- the streams at a tick
+  abbrev pub run_streams : (ℕ → List A) → (ℕ → ℕ → List A) → ℕ → ℕ → List A
+  run_streams carried feeds t = streams_at (feeds t) (run_states carried feeds t)

@@ -12,7 +12,7 @@ pub record IsTrajectory (plant : Plant) (carried : ℕ → List Interval) (feeds
   pub fed : (t s f : ℕ) → t < n → s < length plant.streams → origin_of plant s ≡ feed f → AllHold (feeds t f) (x t s)
   -- each output is what its unit shows
   pub outputs : (t s u p : ℕ) → t < n → s < length plant.streams → origin_of plant s ≡ port u p →
-    x t s ≡ shown (on_numbers plant) (unit_at plant u) p (y t u) (inputs_of (unit_at plant u) (x t))
+      x t s ≡ shown (on_numbers plant) (unit_at plant u) p (y t u) (inputs_of (unit_at plant u) (x t))
   -- each state at the next tick is what its unit steps to
   pub steps : (t u : ℕ) → t + 1 < n → u < length plant.units →
-    y (t + 1) u ≡ stepped (on_numbers plant) (unit_at plant u) (y t u) (inputs_of (unit_at plant u) (x t))
+      y (t + 1) u ≡ stepped (on_numbers plant) (unit_at plant u) (y t u) (inputs_of (unit_at plant u) (x t))
