@@ -1,0 +1,9 @@
+//! The texts that the program writes: the rows of its tables.
+#![tactic(auto)]
+
+mod rows;
+
+pub use rows::{OUTPUT_HEADER, Rows};
+
+#[cfg(test)]
+mod tests;
