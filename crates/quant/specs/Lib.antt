@@ -3,3 +3,4 @@ pub mod Hull
 pub mod Rounding
 pub mod Operation
 pub mod Term
+pub mod Limits

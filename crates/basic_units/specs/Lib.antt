@@ -1,0 +1,2 @@
+pub mod Tank
+pub mod TankLaws
