@@ -1,4 +1,7 @@
 pub mod Bands
+pub mod Casts
+pub mod Corners
+pub mod Division
 pub mod Hulls
 pub mod Operations
 pub mod Terms

@@ -1,24 +1,305 @@
 -- Each operation is monotone in each argument.
-use Rattle.std.proofs.Common.{ℤ, ◌+ℤ◌, ◌-ℤ◌}
-use Rattle.quant.specs.Interval.{Interval, IsBand}
+use Rattle.std.proofs.Common.{◌≡◌, ℕ, ℤ, pos, ◌+ℤ◌, ◌-ℤ◌, ◌*ℤ◌, ◌≤ℤ◌, arith, refl, sym, ap, ◌∙◌}
+use Rattle.std.proofs.lemmas.Int.{ints, clamps, by_lt_z}
+use Rattle.std.proofs.Math.IntN.{*ℤ_comm}
+use Rattle.quant.specs.Interval.{Interval, Holds, join, point, around}
 use Rattle.quant.specs.Hull.{IsMonotone1, IsMonotone2, IsMonotone4}
-use Rattle.quant.specs.Rounding.{Rounding}
-use Rattle.quant.specs.Operation.{share, keep, blend, clamp}
+use Rattle.quant.specs.Rounding.{Rounding, quotient, divisor}
+use Rattle.quant.specs.Operation.{million, part, share, keep, blend, clamp}
+use Rattle.quant.proofs.Division.{add-times, times-times, sub-times, times-le, le-times, ge-times, one-le_divisor, divisor-same, quotient-rises, quotient-shifts, quotient-exact, quotient-le_whole, quotient-exact_whole}
+
+-- what rises, and what falls, is monotone
+rises : (f : ℤ → ℤ) → ((a b : ℤ) → a ≤ℤ b → f a ≤ℤ f b) → IsMonotone1 f
+rises f h a b c p q = let x = h a b p in let y = h b c q in record { above = omega (arith, ints, clamps); below = omega (arith, ints, clamps) }
+
+falls : (f : ℤ → ℤ) → ((a b : ℤ) → a ≤ℤ b → f b ≤ℤ f a) → IsMonotone1 f
+falls f h a b c p q = let x = h a b p in let y = h b c q in record { above = omega (arith, ints, clamps); below = omega (arith, ints, clamps) }
+
+-- either of two cases by order
+by_le_z : {P : Type 0} (a b : ℤ) → (a ≤ℤ b → P) → (b ≤ℤ a → P) → P
+by_le_z a b f g = by_lt_z a b (λ l. f (omega (arith, ints))) g
+
+clamp-rises : (limits : Interval) (a b : ℤ) → a ≤ℤ b → clamp limits a ≤ℤ clamp limits b
+unfolding clamp
+clamp-rises limits a b h = omega (arith, ints, clamps)
 
 pub clamp-monotone : (limits : Interval) → IsMonotone1 (clamp limits)
-clamp-monotone limits = ?
+clamp-monotone limits = rises (clamp limits) (clamp-rises limits)
 
 pub sum-monotone : IsMonotone2 ◌+ℤ◌
-sum-monotone = ?
+sum-monotone = (
+  (λ b. rises (λ a. a +ℤ b) (λ x y h. omega (arith, ints))),
+  (λ a. rises (λ b. a +ℤ b) (λ x y h. omega (arith, ints))),
+)
 
 pub difference-monotone : IsMonotone2 ◌-ℤ◌
-difference-monotone = ?
+difference-monotone = (
+  (λ b. rises (λ a. a -ℤ b) (λ x y h. omega (arith, ints))),
+  (λ a. falls (λ b. a -ℤ b) (λ x y h. omega (arith, ints))),
+)
+
+-- a part lies from 0 to the whole, and rises with what it is made from
+pub part-above : (w m : ℤ) → pos 0 ≤ℤ part w m
+part-above w m = omega (arith, ints, clamps)
+
+pub part-below : (w m : ℤ) → pos 0 ≤ℤ w → part w m ≤ℤ w
+part-below w m h = omega (arith, ints, clamps)
+
+part-rises : (w m n : ℤ) → m ≤ℤ n → part w m ≤ℤ part w n
+part-rises w m n h = omega (arith, ints, clamps)
+
+-- `share` rises with the whole, and with the ppm where the whole is not negative
+pub share-rises : (r : Rounding) (a b g : ℤ) → a ≤ℤ b → share r a g ≤ℤ share r b g
+unfolding share
+share-rises r a b g h = quotient-rises r (a *ℤ part million g) (b *ℤ part million g) million (times-le a b (part million g) (part-above million g) h)
+
+pub share-up : (r : Rounding) (a g h : ℤ) → pos 0 ≤ℤ a → g ≤ℤ h → share r a g ≤ℤ share r a h
+unfolding share
+share-up r a g h p q = quotient-rises r (a *ℤ part million g) (a *ℤ part million h) million (le-times (part million g) (part million h) a p (part-rises million g h q))
+
+pub share-down : (r : Rounding) (a g h : ℤ) → a ≤ℤ pos 0 → g ≤ℤ h → share r a h ≤ℤ share r a g
+unfolding share
+share-down r a g h p q = quotient-rises r (a *ℤ part million h) (a *ℤ part million g) million (ge-times (part million g) (part million h) a p (part-rises million g h q))
 
 pub share-monotone : (r : Rounding) → IsMonotone2 (share r)
-share-monotone r = ?
+share-monotone r = (
+  (λ g. rises (λ a. share r a g) (λ a b h. share-rises r a b g h)),
+  (λ a. by_le_z (pos 0) a (λ p. rises (share r a) (λ g h q. share-up r a g h p q)) (λ p. falls (share r a) (λ g h q. share-down r a g h p q))),
+)
+
+-- the share of a number lies from 0 to the number
+pub share-between_up : (r : Rounding) (a g : ℤ) → pos 0 ≤ℤ a → (pos 0 ≤ℤ share r a g) × (share r a g ≤ℤ a)
+unfolding share
+share-between_up r a g p =
+    let n = part million g in
+    let low : (pos 0 *ℤ divisor million) ≤ℤ (a *ℤ n) = omega (arith, ints, times-le (pos 0) a n (part-above million g) p) in
+    let high : (a *ℤ n) ≤ℤ (a *ℤ divisor million) = le-times n million a p (part-below million g (omega (arith, ints))) in (
+      omega (arith, ints, quotient-rises r (pos 0 *ℤ divisor million) (a *ℤ n) million low, quotient-exact r (pos 0) million),
+      omega (arith, ints, quotient-rises r (a *ℤ n) (a *ℤ divisor million) million high, quotient-exact r a million),
+    )
+
+pub share-between_down : (r : Rounding) (a g : ℤ) → a ≤ℤ pos 0 → (a ≤ℤ share r a g) × (share r a g ≤ℤ pos 0)
+unfolding share
+share-between_down r a g p =
+    let n = part million g in
+    let high : (a *ℤ n) ≤ℤ (pos 0 *ℤ divisor million) = omega (arith, ints, times-le a (pos 0) n (part-above million g) p) in
+    let low : (a *ℤ divisor million) ≤ℤ (a *ℤ n) = ge-times n million a p (part-below million g (omega (arith, ints))) in (
+      omega (arith, ints, quotient-rises r (a *ℤ divisor million) (a *ℤ n) million low, quotient-exact r a million),
+      omega (arith, ints, quotient-rises r (a *ℤ n) (pos 0 *ℤ divisor million) million high, quotient-exact r (pos 0) million),
+    )
+
+-- a share rises by at most as much as its whole
+share-gains : (r : Rounding) (a b g : ℤ) → a ≤ℤ b → share r b g ≤ℤ (share r a g +ℤ (b -ℤ a))
+unfolding share
+share-gains r a b g h =
+    let n = part million g in
+    let gain : ((b -ℤ a) *ℤ n) ≤ℤ ((b -ℤ a) *ℤ divisor million) = le-times n million (b -ℤ a) (omega (arith, ints)) (part-below million g (omega (arith, ints))) in
+    let more : (b *ℤ n) ≤ℤ (a *ℤ n +ℤ (b -ℤ a) *ℤ divisor million) = omega (arith, ints, gain, sub-times b a n) in
+    omega (arith, ints, quotient-rises r (b *ℤ n) (a *ℤ n +ℤ (b -ℤ a) *ℤ divisor million) million more, quotient-shifts r (a *ℤ n) (b -ℤ a) million)
+
+-- `keep` rises with the whole, and falls with the ppm where the whole is not negative
+pub keep-rises : (r : Rounding) (a b g : ℤ) → a ≤ℤ b → keep r a g ≤ℤ keep r b g
+unfolding keep
+keep-rises r a b g h = omega (arith, ints, share-gains r a b g h)
+
+pub keep-down : (r : Rounding) (a g h : ℤ) → pos 0 ≤ℤ a → g ≤ℤ h → keep r a h ≤ℤ keep r a g
+unfolding keep
+keep-down r a g h p q = omega (arith, ints, share-up r a g h p q)
+
+pub keep-up : (r : Rounding) (a g h : ℤ) → a ≤ℤ pos 0 → g ≤ℤ h → keep r a g ≤ℤ keep r a h
+unfolding keep
+keep-up r a g h p q = omega (arith, ints, share-down r a g h p q)
 
 pub keep-monotone : (r : Rounding) → IsMonotone2 (keep r)
-keep-monotone r = ?
+keep-monotone r = (
+  (λ g. rises (λ a. keep r a g) (λ a b h. keep-rises r a b g h)),
+  (λ a. by_le_z (pos 0) a (λ p. falls (keep r a) (λ g h q. keep-down r a g h p q)) (λ p. rises (keep r a) (λ g h q. keep-up r a g h p q))),
+)
+
+-- what keep leaves lies from 0 to the number too
+pub keep-between_up : (r : Rounding) (a g : ℤ) → pos 0 ≤ℤ a → (pos 0 ≤ℤ keep r a g) × (keep r a g ≤ℤ a)
+unfolding keep
+keep-between_up r a g p = let h = share-between_up r a g p in (omega (arith, ints), omega (arith, ints))
+
+pub keep-between_down : (r : Rounding) (a g : ℤ) → a ≤ℤ pos 0 → (a ≤ℤ keep r a g) × (keep r a g ≤ℤ pos 0)
+unfolding keep
+keep-between_down r a g p = let h = share-between_down r a g p in (omega (arith, ints), omega (arith, ints))
+
+-- what is divided in a blend: w at c, of which n are replaced by d
+abbrev pub weighed : ℤ → ℤ → ℤ → ℤ → ℤ
+weighed c d w n = c *ℤ (w -ℤ n) +ℤ d *ℤ n
+
+pub weighed-is : (c d w n : ℤ) → weighed c d w n ≡ c *ℤ w +ℤ (d -ℤ c) *ℤ n
+weighed-is c d w n = omega (arith, ints, *ℤ_comm c (w -ℤ n), sub-times w n c, sub-times d c n, *ℤ_comm w c, *ℤ_comm n c)
+
+weighed-times : (c d w n u : ℤ) → weighed c d w n *ℤ u ≡ c *ℤ (w *ℤ u) +ℤ (d -ℤ c) *ℤ (n *ℤ u)
+weighed-times c d w n u =
+    omega (arith, ints, ap (λ (t : ℤ). t *ℤ u) (weighed-is c d w n), add-times (c *ℤ w) ((d -ℤ c) *ℤ n) u, times-times c w u, times-times (d -ℤ c) n u)
+
+-- `blend` rises with what is there and with what is added
+pub blend-old : (r : Rounding) (a b d m v : ℤ) → a ≤ℤ b → blend r a d m v ≤ℤ blend r b d m v
+unfolding blend
+blend-old r a b d m v h =
+    let w = divisor v in
+    let n = part w m in
+    let kept : pos 0 ≤ℤ (w -ℤ n) = omega (arith, ints, part-below w m (omega (arith, ints, one-le_divisor v))) in
+    quotient-rises r (weighed a d w n) (weighed b d w n) w (omega (arith, ints, times-le a b (w -ℤ n) kept h))
+
+pub blend-added : (r : Rounding) (c a b m v : ℤ) → a ≤ℤ b → blend r c a m v ≤ℤ blend r c b m v
+unfolding blend
+blend-added r c a b m v h =
+    let w = divisor v in
+    let n = part w m in
+    quotient-rises r (weighed c a w n) (weighed c b w n) w (omega (arith, ints, times-le a b n (part-above w m) h))
+
+-- it rises with the part where what is added is not less
+pub blend-part_up : (r : Rounding) (c d m n v : ℤ) → c ≤ℤ d → m ≤ℤ n → blend r c d m v ≤ℤ blend r c d n v
+unfolding blend
+blend-part_up r c d m n v p h =
+    let w = divisor v in
+    quotient-rises r (weighed c d w (part w m)) (weighed c d w (part w n)) w
+    (omega (arith, ints, weighed-is c d w (part w m), weighed-is c d w (part w n), le-times (part w m) (part w n) (d -ℤ c) (omega (arith, ints)) (part-rises w m n h)))
+
+pub blend-part_down : (r : Rounding) (c d m n v : ℤ) → d ≤ℤ c → m ≤ℤ n → blend r c d n v ≤ℤ blend r c d m v
+unfolding blend
+blend-part_down r c d m n v p h =
+    let w = divisor v in
+    quotient-rises r (weighed c d w (part w n)) (weighed c d w (part w m)) w
+    (omega (arith, ints, weighed-is c d w (part w m), weighed-is c d w (part w n), ge-times (part w m) (part w n) (d -ℤ c) (omega (arith, ints)) (part-rises w m n h)))
+
+-- of a greater whole a part is no greater a share
+cross-same : (k n w u : ℤ) → k ≡ n → pos 0 ≤ℤ n → w ≤ℤ u → (k *ℤ w) ≤ℤ (n *ℤ u)
+cross-same k n w u e p h = omega (arith, ints, ap (λ (t : ℤ). t *ℤ w) e, le-times w u n p h)
+
+cross-whole : (k n w u : ℤ) → n ≡ w → k ≤ℤ u → pos 0 ≤ℤ w → (k *ℤ w) ≤ℤ (n *ℤ u)
+cross-whole k n w u e h p = omega (arith, ints, ap (λ (t : ℤ). t *ℤ u) e, times-le k u w p h, *ℤ_comm u w)
+
+part-cross : (w u m : ℤ) → pos 1 ≤ℤ w → w ≤ℤ u → (part u m *ℤ w) ≤ℤ (part w m *ℤ u)
+part-cross w u m p h =
+    by_le_z m w
+    (λ l. cross-same (part u m) (part w m) w u (omega (arith, ints, clamps)) (part-above w m) h)
+    (λ l. cross-whole (part u m) (part w m) w u (omega (arith, ints, clamps)) (part-below u m (omega (arith, ints))) (omega (arith, ints)))
+
+divisor-rises : (u v : ℤ) → u ≤ℤ v → divisor u ≤ℤ divisor v
+divisor-rises u v h = omega (arith, ints, clamps)
+
+-- so it falls with the volume there
+pub blend-volume_down : (r : Rounding) (c d m u v : ℤ) → c ≤ℤ d → u ≤ℤ v → blend r c d m v ≤ℤ blend r c d m u
+unfolding blend
+blend-volume_down r c d m u v p h =
+    let x = divisor u in
+    let y = divisor v in
+    quotient-le_whole r (weighed c d y (part y m)) (weighed c d x (part x m)) y x (one-le_divisor v) (one-le_divisor u)
+    (omega (
+      arith,
+      ints,
+      weighed-times c d y (part y m) x,
+      weighed-times c d x (part x m) y,
+      ap (λ (t : ℤ). c *ℤ t) (*ℤ_comm x y),
+      le-times (part y m *ℤ x) (part x m *ℤ y) (d -ℤ c) (omega (arith, ints)) (part-cross x y m (one-le_divisor u) (divisor-rises u v h)),
+    ))
+
+pub blend-volume_up : (r : Rounding) (c d m u v : ℤ) → d ≤ℤ c → u ≤ℤ v → blend r c d m u ≤ℤ blend r c d m v
+unfolding blend
+blend-volume_up r c d m u v p h =
+    let x = divisor u in
+    let y = divisor v in
+    quotient-le_whole r (weighed c d x (part x m)) (weighed c d y (part y m)) x y (one-le_divisor u) (one-le_divisor v)
+    (omega (
+      arith,
+      ints,
+      weighed-times c d y (part y m) x,
+      weighed-times c d x (part x m) y,
+      ap (λ (t : ℤ). c *ℤ t) (*ℤ_comm x y),
+      ge-times (part y m *ℤ x) (part x m *ℤ y) (d -ℤ c) (omega (arith, ints)) (part-cross x y m (one-le_divisor u) (divisor-rises u v h)),
+    ))
 
 pub blend-monotone : (r : Rounding) → IsMonotone4 (blend r)
-blend-monotone r = ?
+blend-monotone r = (
+  (λ d m v. rises (λ c. blend r c d m v) (λ a b h. blend-old r a b d m v h)),
+  (λ c. (
+    (λ m v. rises (λ d. blend r c d m v) (λ a b h. blend-added r c a b m v h)),
+    (λ d. (
+      (λ v. by_le_z c d (λ p. rises (λ m. blend r c d m v) (λ m n h. blend-part_up r c d m n v p h)) (λ p. falls (λ m. blend r c d m v) (λ m n h. blend-part_down r c d m n v p h))),
+      (λ m. by_le_z c d (λ p. falls (blend r c d m) (λ u v h. blend-volume_down r c d m u v p h)) (λ p. rises (blend r c d m) (λ u v h. blend-volume_up r c d m u v p h))),
+    )),
+  )),
+)
+
+-- a blend lies between what is there and what is added
+pub blend-between_up : (r : Rounding) (c d m v : ℤ) → c ≤ℤ d → (c ≤ℤ blend r c d m v) × (blend r c d m v ≤ℤ d)
+unfolding blend
+blend-between_up r c d m v p =
+    let w = divisor v in
+    let n = part w m in
+    let e : pos 0 ≤ℤ (d -ℤ c) = omega (arith, ints) in
+    let low : (c *ℤ w) ≤ℤ weighed c d w n = omega (arith, ints, weighed-is c d w n, le-times (pos 0) n (d -ℤ c) e (part-above w m)) in
+    let high : weighed c d w n ≤ℤ (d *ℤ w) =
+    omega (arith, ints, weighed-is c d w n, le-times n w (d -ℤ c) e (part-below w m (omega (arith, ints, one-le_divisor v))), sub-times d c w) in (
+      omega (arith, ints, quotient-rises r (c *ℤ w) (weighed c d w n) w low, quotient-exact_whole r c w (one-le_divisor v)),
+      omega (arith, ints, quotient-rises r (weighed c d w n) (d *ℤ w) w high, quotient-exact_whole r d w (one-le_divisor v)),
+    )
+
+pub blend-between_down : (r : Rounding) (c d m v : ℤ) → d ≤ℤ c → (d ≤ℤ blend r c d m v) × (blend r c d m v ≤ℤ c)
+unfolding blend
+blend-between_down r c d m v p =
+    let w = divisor v in
+    let n = part w m in
+    let e : (d -ℤ c) ≤ℤ pos 0 = omega (arith, ints) in
+    let high : weighed c d w n ≤ℤ (c *ℤ w) = omega (arith, ints, weighed-is c d w n, ge-times (pos 0) n (d -ℤ c) e (part-above w m)) in
+    let low : (d *ℤ w) ≤ℤ weighed c d w n =
+    omega (arith, ints, weighed-is c d w n, ge-times n w (d -ℤ c) e (part-below w m (omega (arith, ints, one-le_divisor v))), sub-times d c w) in (
+      omega (arith, ints, quotient-rises r (d *ℤ w) (weighed c d w n) w low, quotient-exact_whole r d w (one-le_divisor v)),
+      omega (arith, ints, quotient-rises r (weighed c d w n) (c *ℤ w) w high, quotient-exact_whole r c w (one-le_divisor v)),
+    )
+
+-- the same, as the contracts say it
+pub share-between : (r : Rounding) (a g : ℤ) → Holds (join (point (pos 0)) (point a)) (share r a g)
+share-between r a g =
+    by_le_z (pos 0) a
+    (λ p. let h = share-between_up r a g p in record { above = omega (arith, ints, clamps); below = omega (arith, ints, clamps) })
+    (λ p. let h = share-between_down r a g p in record { above = omega (arith, ints, clamps); below = omega (arith, ints, clamps) })
+
+pub keep-between : (r : Rounding) (a g : ℤ) → Holds (join (point (pos 0)) (point a)) (keep r a g)
+keep-between r a g =
+    by_le_z (pos 0) a
+    (λ p. let h = keep-between_up r a g p in record { above = omega (arith, ints, clamps); below = omega (arith, ints, clamps) })
+    (λ p. let h = keep-between_down r a g p in record { above = omega (arith, ints, clamps); below = omega (arith, ints, clamps) })
+
+pub blend-between : (r : Rounding) (c d m v : ℤ) → Holds (join (point c) (point d)) (blend r c d m v)
+blend-between r c d m v =
+    by_le_z c d
+    (λ p. let h = blend-between_up r c d m v p in record { above = omega (arith, ints, clamps); below = omega (arith, ints, clamps) })
+    (λ p. let h = blend-between_down r c d m v p in record { above = omega (arith, ints, clamps); below = omega (arith, ints, clamps) })
+
+-- so each fits where the numbers do
+between-around : (a b z : ℤ) (n : ℕ) → Holds (around n) a → Holds (around n) b → Holds (join (point a) (point b)) z → Holds (around n) z
+between-around a b z n h k l = record { above = omega (arith, ints, clamps); below = omega (arith, ints, clamps) }
+
+zero-around : (n : ℕ) → Holds (around n) (pos 0)
+zero-around n = record { above = omega (arith, ints); below = omega (arith, ints) }
+
+pub share-around : (r : Rounding) (a g : ℤ) (n : ℕ) → Holds (around n) a → Holds (around n) (share r a g)
+share-around r a g n h = between-around (pos 0) a (share r a g) n (zero-around n) h (share-between r a g)
+
+pub keep-around : (r : Rounding) (a g : ℤ) (n : ℕ) → Holds (around n) a → Holds (around n) (keep r a g)
+keep-around r a g n h = between-around (pos 0) a (keep r a g) n (zero-around n) h (keep-between r a g)
+
+pub blend-around : (r : Rounding) (c d m v : ℤ) (n : ℕ) → Holds (around n) c → Holds (around n) d → Holds (around n) (blend r c d m v)
+blend-around r c d m v n h k = between-around c d (blend r c d m v) n h k (blend-between r c d m v)
+
+-- the definitions, opened
+same-blend : (r : Rounding) (c d m w v n : ℤ) → w ≡ v → n ≡ part v m → quotient r (weighed c d w (part w m)) w ≡ quotient r (weighed c d v n) v
+same-blend r c d m w v n e f = ap (λ (t : ℤ). quotient r (weighed c d t (part t m)) t) e ∙ ap (λ (t : ℤ). quotient r (weighed c d v t) v) (sym f)
+
+pub share-is : (r : Rounding) (a g : ℤ) → share r a g ≡ quotient r (a *ℤ part million g) million
+unfolding share
+share-is r a g = refl
+
+pub keep-is : (r : Rounding) (a g : ℤ) → keep r a g ≡ a -ℤ share r a g
+unfolding keep
+keep-is r a g = refl
+
+pub blend-is : (r : Rounding) (c d m v n : ℤ) → pos 1 ≤ℤ v → n ≡ part v m → blend r c d m v ≡ quotient r (weighed c d v n) v
+unfolding blend
+blend-is r c d m v n h e = same-blend r c d m (divisor v) v n (divisor-same v h) e

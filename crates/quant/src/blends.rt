@@ -1,6 +1,6 @@
-ghost use Rattle.std.specs.Prelude.{◌≡◌, pos};
+ghost use Rattle.std.specs.Prelude.{◌≡◌, ℤ, ◌≤ℤ◌, pos};
 ghost use Rattle.quant.specs.Interval.{Interval, Holds, IsInside, around, join, point};
-ghost use Rattle.quant.specs.Hull.{hull4, IsHull, IsValue4};
+ghost use Rattle.quant.specs.Hull.{hull4, IsHull, IsValue2, IsValue4};
 ghost use Rattle.quant.specs.Rounding.{Floor};
 ghost use Rattle.quant.specs.Operation.{blend, volumes};
 
@@ -37,10 +37,13 @@ pub fn blend_band(c: Band, d: Band, m: Band, v: Band) -> Band
     }
 }
 
+/// The least blend of these contents, with the part and the volume in bands.
 fn least(c: i64, d: i64, m: Band, v: Band) -> i64
     requires old { Holds (around 10000000000000000) c }
     requires added { Holds (around 10000000000000000) d }
     requires volume { IsInside v volumes }
+    ensures found { IsValue2 (blend Floor c d) m v result }
+    ensures least { (x y : ℤ) → Holds m x → Holds v y → result ≤ℤ blend Floor c d x y }
 {
     if d >= c {
         blend(c, d, m.lo, v.hi)
@@ -49,10 +52,13 @@ fn least(c: i64, d: i64, m: Band, v: Band) -> i64
     }
 }
 
+/// The greatest blend of these contents, with the part and the volume in bands.
 fn greatest(c: i64, d: i64, m: Band, v: Band) -> i64
     requires old { Holds (around 10000000000000000) c }
     requires added { Holds (around 10000000000000000) d }
     requires volume { IsInside v volumes }
+    ensures found { IsValue2 (blend Floor c d) m v result }
+    ensures greatest { (x y : ℤ) → Holds m x → Holds v y → blend Floor c d x y ≤ℤ result }
 {
     if d >= c {
         blend(c, d, m.hi, v.lo)

@@ -9,6 +9,7 @@ mod limits;
 mod quotients;
 mod shares;
 mod sums;
+mod text;
 
 pub use band::{Band, clamp, clamp_band};
 pub use blends::{blend, blend_band};
@@ -17,3 +18,4 @@ pub use laws::{operations_are_monotone, terms_at_points, terms_include, terms_na
 pub use limits::Limits;
 pub use shares::{MILLION, keep, keep_band, share, share_band};
 pub use sums::{add, add_band, sub, sub_band};
+pub use text::Text;

@@ -1,4 +1,4 @@
-ghost use Rattle.std.specs.Prelude.{◌≡◌, pos};
+ghost use Rattle.std.specs.Prelude.{◌≡◌, pos, ◌≤ℤ◌, ◌<ℤ◌};
 ghost use Rattle.quant.specs.Interval.{Holds, IsInside, around, join, point};
 ghost use Rattle.quant.specs.Hull.{hull2, IsHull, IsValue2};
 ghost use Rattle.quant.specs.Rounding.{Floor};
@@ -37,8 +37,8 @@ pub fn share_band(a: Band, g: Band) -> Band
     ensures between { IsInside result (join (point (pos 0)) a) }
 {
     Band {
-        lo: share(a.lo, if a.lo >= 0 { g.lo } else { g.hi }),
-        hi: share(a.hi, if a.hi >= 0 { g.hi } else { g.lo }),
+        lo: share(a.lo, by_sign(a.lo, g.lo, g.hi)),
+        hi: share(a.hi, by_sign(a.hi, g.hi, g.lo)),
     }
 }
 
@@ -50,7 +50,15 @@ pub fn keep_band(a: Band, g: Band) -> Band
     ensures between { IsInside result (join (point (pos 0)) a) }
 {
     Band {
-        lo: keep(a.lo, if a.lo >= 0 { g.hi } else { g.lo }),
-        hi: keep(a.hi, if a.hi >= 0 { g.lo } else { g.hi }),
+        lo: keep(a.lo, by_sign(a.lo, g.hi, g.lo)),
+        hi: keep(a.hi, by_sign(a.hi, g.lo, g.hi)),
     }
+}
+
+/// `upper` where `a` is not negative, and else `lower`.
+fn by_sign(a: i64, upper: i64, lower: i64) -> i64
+    ensures not_negative { pos 0 ≤ℤ a → result ≡ upper }
+    ensures negative { a <ℤ pos 0 → result ≡ lower }
+{
+    if a >= 0 { upper } else { lower }
 }

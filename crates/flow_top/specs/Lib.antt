@@ -1,0 +1,5 @@
+pub mod Words
+pub mod TankPlant
+pub mod Uses
+pub mod Ended
+pub mod Stands

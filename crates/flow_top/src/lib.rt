@@ -1,0 +1,12 @@
+//! The one call that the program makes.
+#![tactic(auto)]
+
+mod fault;
+mod tank_rows;
+mod top;
+mod words;
+
+pub use top::flow_top;
+
+#[cfg(test)]
+mod tests;

@@ -1,0 +1,33 @@
+-- What code makes of products and sums in 128 bits.
+use Rattle.std.proofs.Common.{◌≡◌, ℕ, ◌*◌, ◌≤◌, ℤ, ◌+ℤ◌, ◌*ℤ◌, FitsSigned, to_z, of_z, arith, ap, ◌∙◌, unsigned_abs}
+use Rattle.std.proofs.lemmas.Int.{ints, unsigned_abs-mul}
+use Rattle.std.proofs.lemmas.Nat.{mul-le}
+use Rattle.std.specs.Int.{w128}
+use Rattle.quant.specs.Interval.{Holds, around}
+
+-- the size of a product
+size-le : (a : ℤ) (m : ℕ) → Holds (around m) a → unsigned_abs a ≤ m
+size-le a m h = omega (arith, ints)
+
+pub product-around : (a b : ℤ) (m n : ℕ) → Holds (around m) a → Holds (around n) b → Holds (around (m * n)) (a *ℤ b)
+product-around a b m n h k =
+    let s : unsigned_abs (a *ℤ b) ≤ m * n = omega (arith, unsigned_abs-mul a b, mul-le (unsigned_abs a) (unsigned_abs b) m n (size-le a m h) (size-le b n k)) in
+    record { above = omega (arith, ints); below = omega (arith, ints) }
+
+pub same-product : (x y a b : ℤ) → x ≡ a → y ≡ b → x *ℤ y ≡ a *ℤ b
+same-product x y a b e f = ap (λ (t : ℤ). t *ℤ y) e ∙ ap (λ (t : ℤ). a *ℤ t) f
+
+-- what is of this size comes back from 128 bits, and so does a sum of two
+pub back : (x a : ℤ) → x ≡ a → Holds (around 100000000000000000000000000000) a → to_z w128 (of_z w128 x) ≡ a
+back x a e h = omega (arith, ints)
+
+pub fits : (x a : ℤ) → x ≡ a → Holds (around 100000000000000000000000000000) a → FitsSigned w128 x
+fits x a e h = omega (arith, ints)
+
+pub sum-fits : (x y a b : ℤ) → x ≡ a → y ≡ b → Holds (around 100000000000000000000000000000) a → Holds (around 100000000000000000000000000000) b →
+    FitsSigned w128 (to_z w128 (of_z w128 x) +ℤ to_z w128 (of_z w128 y))
+sum-fits x y a b e f h k = omega (arith, ints, back x a e h, back y b f k)
+
+pub sum-back : (x y a b : ℤ) → x ≡ a → y ≡ b → Holds (around 100000000000000000000000000000) a → Holds (around 100000000000000000000000000000) b →
+    to_z w128 (of_z w128 (to_z w128 (of_z w128 x) +ℤ to_z w128 (of_z w128 y))) ≡ a +ℤ b
+sum-back x y a b e f h k = omega (arith, ints, back x a e h, back y b f k)
