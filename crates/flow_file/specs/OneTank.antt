@@ -14,29 +14,27 @@ use Rattle.flow_file.specs.Tree.{tree_of, table_with, array_with, number_in, key
 
 -- the limits: five bands, of which the flow begins at 0 or more and the volume at 1 or more
 unfoldable pub limits_of : Data → Option Limits
-limits_of data = do
-  table ← table_with 5 data
+limits_of node = do
+  table ← table_with 5 node
   flow ← at_key (codes "flow") table >>= band_of
   conc ← at_key (codes "conc") table >>= band_of
   temp ← at_key (codes "temp") table >>= band_of
   volume ← at_key (codes "volume") table >>= band_of
   signal ← at_key (codes "signal") table >>= band_of
-  if int_le (pos 0) flow.lo && int_le (pos 1) volume.lo
-  then Some (record { flow = flow; conc = conc; temp = temp; volume = volume; signal = signal })
-  else None
+  if int_le (pos 0) flow.lo && int_le (pos 1) volume.lo then Some (record { flow = flow; conc = conc; temp = temp; volume = volume; signal = signal }) else None
 
 -- the ticks, 1 to 64, in one window of at most 64
 unfoldable pub ticks_of : Data → Option ℕ
-ticks_of data = do
-  table ← table_with 2 data
+ticks_of node = do
+  table ← table_with 2 node
   ticks ← at_key (codes "ticks") table >>= number_in (pos 1) (pos 64)
   window ← at_key (codes "window") table >>= number_in ticks (pos 64)
   Some (nat_abs ticks)
 
 -- a material feed of one band a channel
 unfoldable pub inflow_of : Limits → Data → Option Inflow
-inflow_of limits data = do
-  table ← table_with 5 data
+inflow_of limits node = do
+  table ← table_with 5 node
   name ← at_key (codes "name") table >>= name_of
   kind ← at_key (codes "kind") table >>= text_is (codes "material")
   flow ← at_key (codes "flow") table >>= band_in limits.flow
@@ -46,8 +44,8 @@ inflow_of limits data = do
 
 -- a signal feed of one band
 unfoldable pub valve_of : Limits → Data → Option Valve
-valve_of limits data = do
-  table ← table_with 3 data
+valve_of limits node = do
+  table ← table_with 3 node
   name ← at_key (codes "name") table >>= name_of
   kind ← at_key (codes "kind") table >>= text_is (codes "signal")
   value ← at_key (codes "value") table >>= band_in limits.signal
@@ -55,8 +53,8 @@ valve_of limits data = do
 
 -- a tank between the two feeds, whose opening bands are inside the limits
 unfoldable pub tank_of : Limits → List ℕ → List ℕ → Data → Option TankPart
-tank_of limits inflow valve data = do
-  table ← table_with 9 data
+tank_of limits inflow valve node = do
+  table ← table_with 9 node
   name ← at_key (codes "name") table >>= name_of
   kind ← at_key (codes "kind") table >>= text_is (codes "tank")
   inlet ← at_key (codes "in") table >>= text_is inflow

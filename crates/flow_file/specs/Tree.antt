@@ -14,27 +14,27 @@ tree_of bytes = if is_utf8 bytes then parse_document bytes else None
 -- how many keys a table has, and how many values an array
 abbrev pub key_count : Members → ℕ
 key_count no_members = 0
-key_count (member key data rest) = suc (key_count rest)
+key_count (member key node rest) = suc (key_count rest)
 
 abbrev pub item_count : Items → ℕ
 item_count no_items = 0
-item_count (item data rest) = suc (item_count rest)
+item_count (item node rest) = suc (item_count rest)
 
 -- a table with so many keys, and an array with so many values
 unfoldable pub table_with : ℕ → Data → Option Members
-table_with n data = do
-  table ← as_table data
+table_with n node = do
+  table ← as_table node
   if key_count table == n then Some table else None
 
 unfoldable pub array_with : ℕ → Data → Option Items
-array_with n data = do
-  array ← as_array data
+array_with n node = do
+  array ← as_array node
   if item_count array == n then Some array else None
 
 -- a whole number from lo to hi
 unfoldable pub number_in : ℤ → ℤ → Data → Option ℤ
-number_in lo hi data = do
-  z ← as_integer data
+number_in lo hi node = do
+  z ← as_integer node
   if int_le lo z && int_le z hi then Some z else None
 
 -- the band from lo to hi, where both are wide numbers in this order
@@ -49,8 +49,8 @@ pair_of _ = None
 
 -- a band: its two ends in an array, or one number
 unfoldable pub pair_band : Data → Option Interval
-pair_band data = do
-  array ← as_array data
+pair_band node = do
+  array ← as_array node
   pair ← pair_of array
   lo ← as_integer pair.0
   hi ← as_integer pair.1
@@ -61,12 +61,12 @@ number_or (Some z) band = band_between z z
 number_or None band = band
 
 unfoldable pub band_of : Data → Option Interval
-band_of data = number_or (as_integer data) (pair_band data)
+band_of node = number_or (as_integer node) (pair_band node)
 
 -- a band inside the limits
 unfoldable pub band_in : Interval → Data → Option Interval
-band_in limits data = do
-  band ← band_of data
+band_in limits node = do
+  band ← band_of node
   if int_le limits.lo band.lo && int_le band.hi limits.hi then Some band else None
 
 -- a letter; a letter, a digit or `_`
@@ -81,14 +81,14 @@ unfoldable pub is_name : List ℕ → Bool
 is_name bytes = (nat_le (length bytes) 32 && is_letter (slice_index bytes 0)) && list_all is_name_byte bytes
 
 unfoldable pub name_of : Data → Option (List ℕ)
-name_of data = do
-  bytes ← as_str data
+name_of node = do
+  bytes ← as_str node
   if is_name bytes then Some bytes else None
 
 -- this text and no other
 unfoldable pub text_is : List ℕ → Data → Option (Unit {0})
-text_is text data = do
-  bytes ← as_str data
+text_is text node = do
+  bytes ← as_str node
   if bytes_eq bytes text then Some tt else None
 
 -- the value at a key

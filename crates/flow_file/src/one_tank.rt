@@ -47,4 +47,7 @@ pub struct TankPart {
 /// Reads a text of at most 1,048,576 bytes.
 pub fn read_one_tank(alloc: Global, bytes: &[u8]) -> Result<OneTank, Unread>
     ensures exact { Gives result (one_tank_in bytes.now) }
-    ensures ready { IfOk result IsReady };
+    ensures ready { IfOk result IsReady }
+{
+    Err(Unread::NotOneTank)
+}
