@@ -1,0 +1,11 @@
+pub mod Ranks
+pub mod Readings
+pub mod Stages
+pub mod Places
+pub mod Bands
+pub mod Runs
+pub mod Renewals
+pub mod Joins
+pub mod Trajectories
+pub mod Tubes
+pub mod Limits

@@ -9,14 +9,14 @@ module _ {A : Type 0} (read : Reader A) (plant : Plant) where
   from_origin feeds states inputs (feed f) = feeds f
   from_origin feeds states inputs (port u p) = shown read (unit_at plant u) p (states u) (inputs u)
 
-  -- The streams at one tick. Those of rank r and below are right; the inputs of a unit are there when those of lesser rank are.
-  abbrev pub streams_to : (ℕ → List A) → (ℕ → List A) → ℕ → ℕ → List A
-  streams_to feeds states zero s = from_origin feeds states (λ u. []) (origin_of plant s)
-  streams_to feeds states (suc r) s = from_origin feeds states (λ u. inputs_of (unit_at plant u) (streams_to feeds states r)) (origin_of plant s)
+  -- The streams of rank below r at one tick, from the feeds and the states at this tick: the inputs of an instant unit are of lesser rank than it.
+  abbrev pub streams_below : (ℕ → List A) → (ℕ → List A) → ℕ → ℕ → List A
+  streams_below feeds states zero s = []
+  streams_below feeds states (suc r) s = from_origin feeds states (λ u. inputs_of (unit_at plant u) (streams_below feeds states r)) (origin_of plant s)
 
-  -- the streams at one tick, from the feeds and the states at this tick
+  -- all streams at one tick
   abbrev pub streams_at : (ℕ → List A) → (ℕ → List A) → ℕ → List A
-  streams_at feeds states = streams_to feeds states plant.top
+  streams_at feeds states = streams_below feeds states (suc plant.top)
 
   -- the states of each unit at a tick, from those carried into the first tick
   abbrev pub run_states : (ℕ → List A) → (ℕ → ℕ → List A) → ℕ → ℕ → List A

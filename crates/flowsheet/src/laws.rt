@@ -26,6 +26,9 @@ pub fn points_run_alone()
     ensures values { (plant : Plant) (carried : ℕ → List Interval) (feeds : ℕ → ℕ → List Interval) (n : ℕ) (x y : ℕ → ℕ → List ℤ) →
         IsRanked plant → ArePoints carried feeds → IsTrajectory plant carried feeds n x y →
         (t s : ℕ) → t < n → s < length plant.streams → run_streams (on_bands plant) plant carried feeds t s ≡ points (x t s) }
+    ensures states { (plant : Plant) (carried : ℕ → List Interval) (feeds : ℕ → ℕ → List Interval) (n : ℕ) (x y : ℕ → ℕ → List ℤ) →
+        IsRanked plant → ArePoints carried feeds → IsTrajectory plant carried feeds n x y →
+        (t u : ℕ) → t < n → u < length plant.units → run_states (on_bands plant) plant carried feeds t u ≡ points (y t u) }
 {}
 
 /// The run from the run's states at a tick, with the feeds from that tick on, is the rest of the run.
@@ -56,7 +59,7 @@ pub fn renewals_hold_the_run()
         ((t : ℕ) → t < n → AllInside (inputs_of (unit_at plant u) (run_streams (on_bands plant) plant carried feeds t)) (rows t)) →
         (t : ℕ) → t ≤ n → AllInside (run_states (on_bands plant) plant carried feeds t u) (renewed_states (on_bands plant) (unit_at plant u) (carried u) rows t) }
     ensures streams { (plant : Plant) (carried : ℕ → List Interval) (feeds : ℕ → ℕ → List Interval) (u n : ℕ) (rows : ℕ → List Interval) →
-        IsRanked plant → AreBands carried feeds → u < length plant.units →
+        IsRanked plant → AreBands carried feeds →
         ((t : ℕ) → t < n → AllInside (inputs_of (unit_at plant u) (run_streams (on_bands plant) plant carried feeds t)) (rows t)) →
         (t s p : ℕ) → t < n → s < length plant.streams → origin_of plant s ≡ port u p →
         AllInside (run_streams (on_bands plant) plant carried feeds t s) (renewed (on_bands plant) (unit_at plant u) p (carried u) rows t) }

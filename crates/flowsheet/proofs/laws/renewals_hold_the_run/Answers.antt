@@ -1,0 +1,20 @@
+-- A renewal from wider inputs is wider.
+use Rattle.std.proofs.Common.{arith}
+use Rattle.flowsheet.proofs.Bands.{inside-itself}
+use Rattle.flowsheet.proofs.Readings.{bands-kept}
+use Rattle.flowsheet.proofs.Runs.{inputs-bands}
+use Rattle.flowsheet.proofs.Renewals.{states-renewed, stream-renewed}
+use Rattle.flowsheet.proofs.laws.renewals_hold_the_run.Goals as goal
+
+pub returns-clause-states : goal.returns-clause-states
+returns-clause-states c plant carried feeds u n rows ranked bands l inputs t m =
+    (states-renewed plant carried feeds u (carried u) rows (bands-kept plant.rounding)
+    (record { bands = bands.states u; inside = inside-itself (carried u) }) t
+    (λ q k. record { bands = inputs-bands plant carried feeds ranked bands q u l; inside = inputs q (omega arith) })).inside
+
+pub returns-clause-streams : goal.returns-clause-streams
+returns-clause-streams c plant carried feeds u n rows ranked bands l inputs t s p m j e =
+    (stream-renewed plant carried feeds u (carried u) rows (bands-kept plant.rounding) ranked
+    (record { bands = bands.states u; inside = inside-itself (carried u) }) t s p j e
+    (λ q k. record { bands = inputs-bands plant carried feeds ranked bands q u l; inside = inputs q (omega arith) })
+    (λ i. record { bands = inputs-bands plant carried feeds ranked bands t u l; inside = inputs t m })).inside
