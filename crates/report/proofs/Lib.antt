@@ -1,0 +1,2 @@
+mod ChannelRows
+mod RowText

@@ -3,7 +3,7 @@
 
 mod rows;
 
-pub use rows::{OUTPUT_HEADER, Rows};
+pub use rows::{OUTPUT_HEADER, Rows, output_header};
 
 #[cfg(test)]
 mod tests;

@@ -1,11 +1,39 @@
-ghost use Rattle.std.specs.Prelude.{◌≡◌, ◌++◌, [], List, map, IfOk, OnOk, OnErr};
+ghost use Rattle.std.specs.Prelude.{◌≡◌, ◌≤◌, ◌∷◌, ◌++◌, [], length, map, IfOk, OnOk, OnErr};
+ghost use Rattle.report.specs.Output.{channels, header};
 
+mod row_writer;
+
+use self::row_writer::{row_writer, write_row};
+use itoa::Buffer;
 use quant::Band;
 use std::alloc::{AllocError, Global};
 use std::marker::Model;
 
 /// The first line of the output.
 pub const OUTPUT_HEADER: &str = "tick,stream,channel,lo,hi\n";
+
+/// The bytes of `OUTPUT_HEADER`.
+pub fn output_header() -> &'static [u8]
+    ensures { result.now ≡ header }
+{
+    OUTPUT_HEADER.as_bytes()
+}
+
+// The channels of a material stream and of a signal.
+const MATERIAL_CHANNELS: [&[u8]; 3] = [b"flow", b"conc", b"temp"];
+
+const SIGNAL_CHANNELS: [&[u8]; 1] = [b"value"];
+
+// The names of a stream's channels.
+fn channel_names(signal: bool) -> &'static [&'static [u8]]
+    ensures { map (λ name. name.now) result.now ≡ channels signal }
+{
+    if signal {
+        &SIGNAL_CHANNELS
+    } else {
+        &MATERIAL_CHANNELS
+    }
+}
 
 /// Rows of a table, written one after another into memory.
 #[derive(Drop)]
@@ -14,25 +42,113 @@ pub struct Rows {
     writer: csv::Writer<Vec<u8>>,
 }
 
+impl Model for Rows {
+    ghost use Rattle.std.specs.Prelude.{ℕ, List};
+    ghost use Rattle.report.specs.Writer.{IsBetweenRows, text_so_far};
+
+    ghost Value = { List ℕ };
+
+    ghost view = { λ r. text_so_far r.writer };
+
+    ghost invariant = { λ r. IsBetweenRows r.writer };
+}
+
 impl Rows {
     ghost use Rattle.report.specs.Line.{line};
     ghost use Rattle.report.specs.Output.{stream_rows};
+    ghost use Rattle.std.specs.Fmt.{signed_decimal};
 
     /// No rows. It takes no memory.
     pub fn new(alloc: Global) -> Self
-        ensures { result ≡ [] };
+        ensures { result ≡ [] }
+    {
+        Rows {
+            alloc,
+            writer: row_writer(alloc),
+        }
+    }
 
-    /// Adds a row of these fields, none of which needs quotes. After want of memory no rows are left.
+    /// Adds a row of these fields: joined by commas, ended by one line feed, and never quoted.
+    ///
+    /// It takes at least two fields, since `csv` writes a row of one empty field as two quotes. The one error is want
+    /// of memory, after which no rows are left.
     pub fn put(&mut self, fields: &[&[u8]]) -> Result<(), AllocError>
+        requires { 2 ≤ length fields.now }
         ensures ok { OnOk result (self.new ≡ self.old ++ line (map (λ f. f.now) fields.now)) }
-        ensures err { OnErr result (self.new ≡ []) };
+        ensures err { OnErr result (self.new ≡ []) }
+    {
+        match write_row(&mut self.writer, fields) {
+            Ok(()) => Ok(()),
+            Err(_) => {
+                self.writer = row_writer(self.alloc);
+                Err(AllocError)
+            }
+        }
+    }
 
-    /// Adds the rows of a stream's channels at a tick. After want of memory no rows are left.
-    pub fn put_stream(&mut self, tick: u32, name: &[u8], signal: bool, bands: &[Band]) -> Result<(), AllocError>
+    // Adds the row of these five texts.
+    fn put_texts<'a>(
+        &mut self,
+        tick: &'a [u8],
+        name: &'a [u8],
+        channel: &'a [u8],
+        lo: &'a [u8],
+        hi: &'a [u8],
+    ) -> Result<(), AllocError>
+        ensures ok { OnOk result (self.new ≡ self.old ++ line (tick.now ∷ name.now ∷ channel.now ∷ lo.now ∷ hi.now ∷ [])) }
+        ensures err { OnErr result (self.new ≡ []) }
+    {
+        self.put(&[tick, name, channel, lo, hi])
+    }
+
+    // Adds the row of one channel.
+    fn put_channel(
+        &mut self,
+        tick: &[u8],
+        name: &[u8],
+        channel: &[u8],
+        band: Band,
+    ) -> Result<(), AllocError>
+        ensures ok { OnOk result (self.new ≡ self.old ++ line (tick.now ∷ name.now ∷ channel.now ∷ signed_decimal band.lo ∷ signed_decimal band.hi ∷ [])) }
+        ensures err { OnErr result (self.new ≡ []) }
+    {
+        let mut lo = Buffer::new();
+        let mut hi = Buffer::new();
+        let lo = lo.format(band.lo).as_bytes();
+        let hi = hi.format(band.hi).as_bytes();
+        self.put_texts(tick, name, channel, lo, hi)
+    }
+
+    /// Adds the rows of a stream's channels at a tick, one row for each channel that has a band.
+    ///
+    /// `tick` counts from the start of the run, `name` is the stream's, and `signal` chooses between the channels of a
+    /// signal and those of a material stream. The one error is want of memory, after which no rows are left.
+    pub fn put_stream(
+        &mut self,
+        tick: u32,
+        name: &[u8],
+        signal: bool,
+        bands: &[Band],
+    ) -> Result<(), AllocError>
         ensures ok { OnOk result (self.new ≡ self.old ++ stream_rows tick (record { name = name.now; signal = signal }) bands.now) }
-        ensures err { OnErr result (self.new ≡ []) };
+        ensures err { OnErr result (self.new ≡ []) }
+    {
+        let mut tick_text = Buffer::new();
+        let tick = tick_text.format(tick).as_bytes();
+        let channels = channel_names(signal);
+        for i in 0..channels.len().min(bands.len()) {
+            self.put_channel(tick, name, channels[i], bands[i])?;
+        }
+        Ok(())
+    }
 
-    /// The rows' text.
+    /// The rows' text, or want of memory, with which the rows are lost.
     pub fn into_text(self) -> Result<Vec<u8>, AllocError>
-        ensures { IfOk result (λ text. text.items ≡ self) };
+        ensures { IfOk result (λ text. text.items ≡ self) }
+    {
+        match self.writer.into_inner() {
+            Ok(text) => Ok(text),
+            Err(_) => Err(AllocError),
+        }
+    }
 }

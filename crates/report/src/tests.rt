@@ -1,1 +1,37 @@
 use super::*;
+use quant::Band;
+use std::test::Fail;
+
+// A material stream at the first tick, and a signal at the last that there can be.
+const FEED_AND_VALVE: &str = "0,feed,flow,0,1500\n\
+    0,feed,conc,-20,-3\n\
+    0,feed,temp,300,300\n\
+    4294967295,valve,value,-1000000000000,1000000000000\n";
+
+#[test]
+fn streams(rt: HostRuntime) -> Result<(), Fail> {
+    let mut rows = Rows::new(rt.alloc());
+    let feed = [
+        Band { lo: 0, hi: 1500 },
+        Band { lo: -20, hi: -3 },
+        Band { lo: 300, hi: 300 },
+    ];
+    let valve = [Band {
+        lo: -1000000000000,
+        hi: 1000000000000,
+    }];
+    rows.put_stream(0, b"feed", false, &feed)?;
+    rows.put_stream(4294967295, b"valve", true, &valve)?;
+    let text = rows.into_text()?;
+    assert!(rt; text.as_slice() == FEED_AND_VALVE.as_bytes());
+    Ok(())
+}
+
+#[test]
+fn header_and_no_rows(rt: HostRuntime) -> Result<(), Fail> {
+    let mut rows = Rows::new(rt.alloc());
+    rows.put(&[b"tick", b"stream", b"channel", b"lo", b"hi"])?;
+    assert!(rt; rows.into_text()?.as_slice() == output_header());
+    assert!(rt; Rows::new(rt.alloc()).into_text()?.is_empty());
+    Ok(())
+}

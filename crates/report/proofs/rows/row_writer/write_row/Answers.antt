@@ -1,0 +1,20 @@
+use Rattle.std.proofs.Common.{◌≡◌, ◌≢◌, ◌≤◌, ◌++◌, ◌∙◌, ap, length, map, arith}
+use Rattle.std.proofs.lemmas.List.{length-map}
+use Rattle.std.proofs.lemmas.Result.{on_ok_weaker}
+use Rattle.csv.specs.Writing.{writer_setup, row_text}
+use Rattle.csv.specs.declared.writer.QuoteStyle.TheVariants as style
+use Rattle.report.specs.Writer.{text_so_far}
+use Rattle.report.proofs.RowText.{row_text-line}
+use Rattle.report.proofs.rows.row_writer.write_row.Goals as goal
+
+-- the row's text is the line of its fields, since there are at least two
+pub returns-clause-row : goal.returns-clause-row
+returns-clause-row c =
+    let w = c.args.writer.now in
+    let fields = map (λ f. f.now) c.args.fields.now in
+    let plain : (writer_setup w).style ≢ style.NonNumeric = rw c.requires.ready.settings (λ e. cc e) in
+    let two : 2 ≤ length fields = omega (arith, c.requires.two, length-map c.args.fields.now (λ f. f.now)) in
+    let is_line : row_text (writer_setup w) fields ≡ _ = rw c.requires.ready.settings (row_text-line fields two) in
+    on_ok_weaker c.write_fields.result
+    (λ written. written c.requires.ready.no_field c.requires.ready.no_byte plain ∙ ap (λ text. text_so_far w ++ text) is_line)
+    c.write_fields.ensures.bytes

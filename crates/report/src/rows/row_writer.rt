@@ -1,0 +1,30 @@
+// The writer that rows go through.
+
+ghost use Rattle.std.specs.Prelude.{◌≡◌, ◌≤◌, ◌++◌, [], length, map, OnOk};
+ghost use Rattle.report.specs.Line.{line};
+ghost use Rattle.report.specs.Writer.{IsBetweenRows, text_so_far};
+
+use csv::{Error, QuoteStyle, Writer, WriterBuilder};
+use std::alloc::Global;
+
+// A writer of rows, into a vector that is empty.
+pub fn row_writer(alloc: Global) -> Writer<Vec<u8>>
+    ensures empty { text_so_far result ≡ [] }
+    ensures ready { IsBetweenRows result }
+{
+    WriterBuilder::new()
+        .quote_style(QuoteStyle::Never)
+        .flexible(true)
+        .from_writer(Vec::new(alloc))
+}
+
+// Writes one row. After an error, which only want of memory makes, nothing is known of the writer.
+#[inline(never)]
+pub fn write_row(writer: &mut Writer<Vec<u8>>, fields: &[&[u8]]) -> Result<(), Error>
+    requires ready { IsBetweenRows writer.old }
+    requires two { 2 ≤ length fields.now }
+    ensures row { OnOk result (text_so_far writer.new ≡ text_so_far writer.old ++ line (map (λ f. f.now) fields.now)) }
+    ensures ready { OnOk result (IsBetweenRows writer.new) }
+{
+    writer.write_fields(fields)
+}
