@@ -9,3 +9,4 @@ pub mod Joins
 pub mod Trajectories
 pub mod Tubes
 pub mod Limits
+pub mod Worked

@@ -47,12 +47,7 @@ instant_rank : (plant : Plant) (s u p : ℕ) → IsRanked plant → u < length p
     (unit_at plant u).instant ≡ true → rank_of plant s ≡ suc (fold max 0 (map (rank_of plant) (unit_at plant u).reads))
 instant_rank plant s u p ranked l e i = ap (origin_rank plant) e ∙ ranked.instants u l i
 
--- so its rank is not 0
-pub instant_above : (plant : Plant) (s u p : ℕ) → IsRanked plant → u < length plant.units → origin_of plant s ≡ port u p →
-    (unit_at plant u).instant ≡ true → 0 < rank_of plant s
-instant_above plant s u p ranked l e i = omega (arith, instant_rank plant s u p ranked l e i)
-
--- and above those of all that it reads
+-- so it is above those of all that it reads
 pub read_below : (plant : Plant) (s u p q : ℕ) → IsRanked plant → u < length plant.units → origin_of plant s ≡ port u p →
     (unit_at plant u).instant ≡ true → Contains (unit_at plant u).reads q → rank_of plant q < rank_of plant s
 read_below plant s u p q ranked l e i c =

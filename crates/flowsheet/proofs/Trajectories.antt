@@ -11,7 +11,7 @@ use Rattle.flowsheet.proofs.Bands.{points-hold, points-hold_alone}
 use Rattle.flowsheet.proofs.Readings.{at-equal, holds-kept, points-kept}
 use Rattle.flowsheet.proofs.Stages.{run-fed, run-shown}
 use Rattle.flowsheet.proofs.Places.{AreAlong, states-along, streams-along}
-use Rattle.flowsheet.proofs.Runs.{streams-related}
+use Rattle.flowsheet.proofs.Runs.{states-related, streams-related}
 
 module _ (plant : Plant) (carried : ℕ → List Interval) (feeds : ℕ → ℕ → List Interval) (n : ℕ) (x y : ℕ → ℕ → List ℤ) where
   -- a trajectory's relations keep it in the run
@@ -42,6 +42,14 @@ module _ (plant : Plant) (carried : ℕ → List Interval) (feeds : ℕ → ℕ 
       (streams-related plant carried feeds (λ u. (single.states u).0) (λ t f. (single.fed t f).0) (points-kept plant.rounding) ranked
       (λ u. (single.states u).1) (λ t f. (single.fed t f).1) t s l)
       (streams-hold ranked trajectory t s m l)
+
+  -- also in its states
+  pub states-points : IsRanked plant → ArePoints carried feeds → IsTrajectory plant carried feeds n x y →
+      (t u : ℕ) → t < n → u < length plant.units → run_states (on_bands plant) plant carried feeds t u ≡ points (y t u)
+  states-points ranked single trajectory t u m l = points-hold_alone _ _ (y t u)
+      (states-related plant carried feeds (λ u. (single.states u).0) (λ t f. (single.fed t f).0) (points-kept plant.rounding) ranked
+      (λ u. (single.states u).1) (λ t f. (single.fed t f).1) t u l)
+      (states-hold ranked trajectory t u m l)
 
 -- the run on numbers is a trajectory over these numbers
 pub run-trajectory : (plant : Plant) (carried : ℕ → List ℤ) (feeds : ℕ → ℕ → List ℤ) (n : ℕ) → IsRanked plant →

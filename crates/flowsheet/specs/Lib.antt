@@ -4,3 +4,4 @@ pub mod Trajectory
 pub mod Run
 pub mod Renewal
 pub mod Limited
+pub mod Worked

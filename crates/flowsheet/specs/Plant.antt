@@ -1,5 +1,5 @@
 -- What a plant is: units, the streams between them, and the order of the units that act at once.
-use Rattle.std.specs.Prelude.{◌≡◌, ℕ, suc, ◌<◌, max, Bool, true, false, List, [], ◌∷◌, length, fold, map, Contains, slice_index_or, slice_index}
+use Rattle.std.specs.Prelude.{◌≡◌, ℕ, suc, ◌<◌, max, Bool, true, false, List, [], length, fold, map, Contains, slice_index_or, slice_index}
 use Rattle.quant.specs.Interval.{Interval}
 use Rattle.quant.specs.Rounding.{Rounding}
 use Rattle.quant.specs.Term.{Term}

@@ -1,5 +1,5 @@
 -- A plant's equations at one tick, read on numbers or on bands.
-use Rattle.std.specs.Prelude.{ℕ, ℤ, Bool, List, [], map, if◌then◌else◌, slice_index_or, flat_map}
+use Rattle.std.specs.Prelude.{ℕ, ℤ, List, [], map, if◌then◌else◌, slice_index_or, flat_map}
 use Rattle.quant.specs.Interval.{Interval}
 use Rattle.quant.specs.Term.{Term, value, interval}
 use Rattle.flowsheet.specs.Plant.{Plant, PlantUnit}

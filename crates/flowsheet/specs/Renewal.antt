@@ -1,5 +1,5 @@
 -- The renewal of one unit over a window, from rows of its inputs. No other unit is looked at.
-use Rattle.std.specs.Prelude.{ℕ, zero, suc, List, []}
+use Rattle.std.specs.Prelude.{ℕ, zero, suc, List}
 use Rattle.flowsheet.specs.Plant.{Plant, PlantUnit, Origin, feed, port, unit_at, origin_of}
 use Rattle.flowsheet.specs.Reading.{Reader, inputs_of, shown, stepped}
 

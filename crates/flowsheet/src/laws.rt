@@ -6,6 +6,7 @@ ghost use Rattle.flowsheet.specs.Trajectory.{IsTrajectory};
 ghost use Rattle.flowsheet.specs.Run.{run_states, run_streams};
 ghost use Rattle.flowsheet.specs.Renewal.{renewed_states, renewed, renewed_stream};
 ghost use Rattle.flowsheet.specs.Limited.{AreBands, ArePoints, IsLimited};
+ghost use Rattle.flowsheet.specs.Worked.{small_recycle};
 
 /// Every trajectory lies in the interval run, at every tick: in each stream and in each unit's states.
 pub fn trajectories_lie_in_the_run()
@@ -93,4 +94,9 @@ pub fn limits_are_kept()
         IsRanked plant → AreBands carried feeds → IsLimited plant carried →
         (t s u p : ℕ) → s < length plant.streams → origin_of plant s ≡ port u p →
         AllInside (run_streams (on_bands plant) plant carried feeds t s) (slice_index_or (unit_at plant u).output_limits p []) }
+{}
+
+/// There are ranked plants in which a stream comes round again, through a register unit and an instant unit.
+pub fn recycles_are_ranked()
+    ensures { IsRanked small_recycle }
 {}

@@ -1,5 +1,6 @@
 -- A renewal from wider inputs is wider.
-use Rattle.std.proofs.Common.{arith}
+use Rattle.std.proofs.Common.{◌<◌, length, arith}
+use Rattle.flowsheet.proofs.Ranks.{unit_there}
 use Rattle.flowsheet.proofs.Bands.{inside-itself}
 use Rattle.flowsheet.proofs.Readings.{bands-kept}
 use Rattle.flowsheet.proofs.Runs.{inputs-bands}
@@ -13,7 +14,8 @@ returns-clause-states c plant carried feeds u n rows ranked bands l inputs t m =
     (λ q k. record { bands = inputs-bands plant carried feeds ranked bands q u l; inside = inputs q (omega arith) })).inside
 
 pub returns-clause-streams : goal.returns-clause-streams
-returns-clause-streams c plant carried feeds u n rows ranked bands l inputs t s p m j e =
+returns-clause-streams c plant carried feeds u n rows ranked bands inputs t s p m j e =
+    let l : u < length plant.units = unit_there plant s u p ranked j e in
     (stream-renewed plant carried feeds u (carried u) rows (bands-kept plant.rounding) ranked
     (record { bands = bands.states u; inside = inside-itself (carried u) }) t s p j e
     (λ q k. record { bands = inputs-bands plant carried feeds ranked bands q u l; inside = inputs q (omega arith) })
