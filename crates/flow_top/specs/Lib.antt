@@ -3,3 +3,4 @@ pub mod TankPlant
 pub mod Uses
 pub mod Ended
 pub mod Stands
+pub mod Causes

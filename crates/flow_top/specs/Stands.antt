@@ -39,17 +39,21 @@ abbrev pub SaidNoLine : TopFault → SinkUse → Status → Type 0
 SaidNoLine WriteOut err result = IsUnwritten err × (result ≡ status.WriteFault)
 SaidNoLine fault err result = SaidMemory err result
 
+-- what was said of a fault
+abbrev pub SaidFault : TopFault → SinkUse → Status → Type 0
+SaidFault fault err result = SaidLine err (fault_line fault) (status_of fault) result ⊎ SaidNoLine fault err result
+
 -- what was said of how the work ended
 abbrev pub Said : Result (Unit {0}) End → SinkUse → Status → Type 0
 Said (Ok done) err result = IsUnwritten err × (result ≡ status.Done)
 Said (Err NoMemory) err result = SaidMemory err result
-Said (Err (Fault fault)) err result = SaidLine err (fault_line fault) (status_of fault) result ⊎ SaidNoLine fault err result
+Said (Err (Fault fault)) err result = SaidFault fault err result
 
--- How the work ended, what then stands in the plant source and the output, and what was said of it. The records and the
--- trace are untouched.
-pub record Stands (words : List (List ℕ)) (plant extra : SourceUse) (out trace err : SinkUse) (result : Status) : Type 0 where
+-- How the work ended, what then stands in the plant source and the output, and what was said of it. The source of records
+-- and the trace are untouched.
+pub record Stands (words : List (List ℕ)) (plant records : SourceUse) (out journal err : SinkUse) (result : Status) : Type 0 where
   pub ending : Result (Unit {0}) End
   pub ended : Ended ending words plant out
   pub said : Said ending err result
-  pub extra : IsUnread extra
-  pub trace : IsUnwritten trace
+  pub extra : IsUnread records
+  pub trace : IsUnwritten journal

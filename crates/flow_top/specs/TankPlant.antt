@@ -13,23 +13,23 @@ use Rattle.report.specs.Output.{Label, header, rows_of}
 -- the tank, which reads the two feeds
 abbrev pub unit_of : OneTank → PlantUnit
 unit_of one = record {
-    instant = false;
-    reads = 0 ∷ 1 ∷ [];
-    next = next_terms one.unit.tank;
-    view = view_terms one.unit.tank;
-    state_limits = state_limits one.unit.tank;
-    output_limits = output_limits one.unit.tank;
-  }
+  instant = false;
+  reads = 0 ∷ 1 ∷ [];
+  next = next_terms one.unit.tank;
+  view = view_terms one.unit.tank;
+  state_limits = state_limits one.unit.tank;
+  output_limits = output_limits one.unit.tank;
+}
 
 -- one unit, the two feeds and its two outputs
 abbrev pub plant_of : OneTank → Plant
 plant_of one = record {
-    units = unit_of one ∷ [];
-    streams = feed 0 ∷ feed 1 ∷ port 0 0 ∷ port 0 1 ∷ [];
-    ranks = 0 ∷ [];
-    top = 0;
-    rounding = Floor;
-  }
+  units = unit_of one ∷ [];
+  streams = feed 0 ∷ feed 1 ∷ port 0 0 ∷ port 0 1 ∷ [];
+  ranks = 0 ∷ [];
+  top = 0;
+  rounding = Floor;
+}
 
 -- the opening bands, and each feed's bands, which are the same at every tick
 abbrev pub carried_of : OneTank → ℕ → List Interval

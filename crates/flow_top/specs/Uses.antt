@@ -18,20 +18,20 @@ pub record SinkUse : Type 0 where
   pub now : ℕ
 
 -- nothing was taken, and no fault counted
-pub record IsUnread (use : SourceUse) : Type 0 where
-  pub text : use.left ≡ use.text
-  pub count : use.now ≡ use.before
+pub record IsUnread (source : SourceUse) : Type 0 where
+  pub text : source.left ≡ source.text
+  pub count : source.now ≡ source.before
 
 -- nothing was given, and no fault counted
-pub record IsUnwritten (use : SinkUse) : Type 0 where
-  pub text : use.has ≡ use.had
-  pub count : use.now ≡ use.before
+pub record IsUnwritten (sink : SinkUse) : Type 0 where
+  pub text : sink.has ≡ sink.had
+  pub count : sink.now ≡ sink.before
 
 -- the sink was given this text whole
 abbrev pub WasGiven : SinkUse → List ℕ → Type 0
-WasGiven use text = Gives use.had use.has text
+WasGiven sink text = Gives sink.had sink.has text
 
 -- the sink was given some first part of this text, and a fault was counted
-pub record Broke (use : SinkUse) (text : List ℕ) : Type 0 where
-  pub front : GivesFront use.had use.has text
-  pub fault : Rose use.before use.now
+pub record Broke (sink : SinkUse) (text : List ℕ) : Type 0 where
+  pub front : GivesFront sink.had sink.has text
+  pub fault : Rose sink.before sink.now

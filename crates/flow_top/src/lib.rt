@@ -7,6 +7,3 @@ mod top;
 mod words;
 
 pub use top::flow_top;
-
-#[cfg(test)]
-mod tests;

@@ -11,7 +11,7 @@ pub fn refused_word(words: &[Word]) -> Option<u32>
     match words {
         [] => Some(1),
         [command, rest @ ..] => {
-            if command.as_bytes() != b"run" {
+            if command.as_bytes() != b"run".as_slice() {
                 return Some(1);
             }
             if rest.is_empty() { None } else { Some(2) }
