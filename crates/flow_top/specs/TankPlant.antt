@@ -4,7 +4,7 @@ use Rattle.quant.specs.Interval.{Interval}
 use Rattle.quant.specs.Rounding.{Floor}
 use Rattle.flowsheet.specs.Plant.{Plant, PlantUnit, feed, port}
 use Rattle.flowsheet.specs.Reading.{on_bands}
-use Rattle.flowsheet.specs.Run.{run_streams}
+use Rattle.flowsheet.specs.Run.{run_streams, streams_at}
 use Rattle.basic_units.specs.Tank.{next_terms, view_terms, state_limits, output_limits}
 use Rattle.flow_file.specs.declared.one_tank.OneTank.{OneTank}
 use Rattle.flow_file.specs.OneTank.{opening_of, inflow_bands}
@@ -42,13 +42,28 @@ feeds_of one tick f = slice_index_or (inflow_bands one.inflow ∷ (one.valve.val
 abbrev pub bands_of : OneTank → ℕ → ℕ → List Interval
 bands_of one = run_streams (on_bands (plant_of one)) (plant_of one) (carried_of one) (feeds_of one)
 
+-- the bands of each stream at one tick, from the tank's states at this tick
+abbrev pub bands_at : OneTank → ℕ → List Interval → ℕ → List Interval
+bands_at one tick states = streams_at (on_bands (plant_of one)) (plant_of one) (feeds_of one tick) (λ u. slice_index_or (states ∷ []) u [])
+
+-- what flows into the tank and opens its valve
+abbrev pub inputs_of : OneTank → List Interval
+inputs_of one = one.inflow.flow ∷ one.inflow.conc ∷ one.inflow.temp ∷ one.valve.value ∷ []
+
+-- the names of its outputs
+abbrev pub out_name : OneTank → List ℕ
+out_name one = one.unit.name ++ codes ".out"
+
+abbrev pub level_name : OneTank → List ℕ
+level_name one = one.unit.name ++ codes ".level"
+
 -- the names under which the streams are printed
 abbrev pub labels_of : OneTank → List Label
 labels_of one =
     record { name = one.inflow.name; signal = false }
     ∷ record { name = one.valve.name; signal = true }
-    ∷ record { name = one.unit.name ++ codes ".out"; signal = false }
-    ∷ record { name = one.unit.name ++ codes ".level"; signal = true }
+    ∷ record { name = out_name one; signal = false }
+    ∷ record { name = level_name one; signal = true }
     ∷ []
 
 -- the rows of every tick, and the whole output

@@ -6,4 +6,5 @@ mod tank_rows;
 mod top;
 mod words;
 
+pub use fault::memory_line;
 pub use top::flow_top;
