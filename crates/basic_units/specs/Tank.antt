@@ -1,5 +1,5 @@
 -- The equations of a tank, and what it may be given.
-use Rattle.std.specs.Prelude.{ℕ, ℤ, pos, List, [], ◌∷◌, flat_map}
+use Rattle.std.specs.Prelude.{pos, List, [], ◌∷◌, flat_map}
 use Rattle.quant.specs.Interval.{Interval, Holds, wide}
 use Rattle.quant.specs.Operation.{million}
 use Rattle.quant.specs.Limits.{AreLimits, wide_from}

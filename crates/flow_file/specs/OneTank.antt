@@ -1,6 +1,6 @@
 -- A plant text that holds one tank with its two feeds, and nothing else.
 use Rattle.std.specs.Prelude.{◌≡◌, ◌==◌, ◌≤◌, ◌&&◌, Bool, ℕ, ℤ, pos, nat_abs, nat_le, int_le, not, List, [], ◌∷◌, length, codes, bytes_eq, Option, Some, None, if◌then◌else◌}
-use Rattle.quant.specs.Interval.{Interval, AllInside, AllBands, IsInside, IsBand}
+use Rattle.quant.specs.Interval.{Interval, Holds, AllInside, AllBands, IsInside, IsBand}
 use Rattle.quant.specs.Operation.{million}
 use Rattle.quant.specs.declared.limits.Limits.{Limits}
 use Rattle.basic_units.specs.Tank.{IsSound, state_limits}
@@ -67,8 +67,11 @@ tank_of limits inflow valve node = do
   Some (record { name = name; tank = record { k = k; limits = limits }; volume = volume; flow = flow; conc = conc; temp = temp })
 
 -- the bands of the tank's states at the first tick
+abbrev pub tank_bands : TankPart → List Interval
+tank_bands unit = unit.volume ∷ unit.flow ∷ unit.conc ∷ unit.temp ∷ []
+
 abbrev pub opening_of : OneTank → List Interval
-opening_of plant = plant.unit.volume ∷ plant.unit.flow ∷ plant.unit.conc ∷ plant.unit.temp ∷ []
+opening_of plant = tank_bands plant.unit
 
 -- the bands of the material feed, and the limits of a material stream
 abbrev pub inflow_bands : Inflow → List Interval
@@ -84,8 +87,16 @@ names_differ plant =
     && not (bytes_eq plant.valve.name plant.unit.name)
 
 -- the plant, where its text has five keys and its names differ
-abbrev pub checked : ℕ → OneTank → Option OneTank
+unfoldable pub checked : ℕ → OneTank → Option OneTank
 checked keys plant = if (keys == 5) && names_differ plant then Some plant else None
+
+-- the two feeds
+unfoldable pub feeds_of : Limits → Members → Option (Inflow × Valve)
+feeds_of limits table = do
+  feeds ← at_key (codes "feed") table >>= array_with 2
+  inflow ← get_item 0 feeds >>= inflow_of limits
+  valve ← get_item 1 feeds >>= valve_of limits
+  Some (inflow, valve)
 
 -- a tree with the five keys of a plant and no others
 unfoldable pub one_tank_of : Members → Option OneTank
@@ -93,12 +104,10 @@ one_tank_of table = do
   format ← at_key (codes "format") table >>= number_in (pos 1) (pos 1)
   ticks ← at_key (codes "run") table >>= ticks_of
   limits ← at_key (codes "limits") table >>= limits_of
-  feeds ← at_key (codes "feed") table >>= array_with 2
-  inflow ← get_item 0 feeds >>= inflow_of limits
-  valve ← get_item 1 feeds >>= valve_of limits
+  feeds ← feeds_of limits table
   units ← at_key (codes "unit") table >>= array_with 1
-  unit ← get_item 0 units >>= tank_of limits inflow.name valve.name
-  checked (key_count table) (record { ticks = ticks; inflow = inflow; valve = valve; unit = unit })
+  unit ← get_item 0 units >>= tank_of limits feeds.0.name feeds.1.name
+  checked (key_count table) (record { ticks = ticks; inflow = feeds.0; valve = feeds.1; unit = unit })
 
 -- the most bytes that a plant text has
 abbrev pub most_bytes : ℕ
@@ -107,6 +116,13 @@ most_bytes = 1048576
 -- the one tank of a plant text
 unfoldable pub one_tank_in : List ℕ → Option OneTank
 one_tank_in bytes = if nat_le (length bytes) most_bytes then tree_of bytes >>= one_tank_of else None
+
+-- What reading has seen of a tank under these limits: they are its own, and k and the opening bands are inside them.
+pub record IsOpen (limits : Limits) (unit : TankPart) : Type 0 where
+  pub own : unit.tank.limits ≡ limits
+  pub k : Holds (record { lo = pos 0; hi = million }) unit.tank.k
+  pub inside : AllInside (tank_bands unit) (state_limits unit.tank)
+  pub bands : AllBands (tank_bands unit)
 
 -- What reading has seen of a plant: its ticks, and where its parameters and bands lie.
 pub record IsReady (plant : OneTank) : Type 0 where

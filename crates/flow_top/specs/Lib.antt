@@ -4,3 +4,4 @@ pub mod Uses
 pub mod Ended
 pub mod Stands
 pub mod Causes
+pub mod Worked

@@ -6,10 +6,10 @@ use Rattle.flow_top.proofs.tank_rows.tank_rows.Goals as goal
 
 pub loop-tick-preserved : goal.loop-tick-preserved
 loop-tick-preserved c = record {
-    states = c.stepped-states.ensures.next ∙ states-more c.args.one.now c.loop-tick.tick _ c.loop-tick.invariant.states;
-    inside = c.stepped-states.ensures.inside;
-    rows = c.in_ok-put_tick.ensures ∙ rows-more c.args.one.now c.loop-tick.tick c.loop-tick.states _ c.loop-tick.invariant.states c.loop-tick.invariant.rows;
-  }
+  states = c.stepped-states.ensures.next ∙ states-more c.args.one.now c.loop-tick.tick _ c.loop-tick.invariant.states;
+  inside = c.stepped-states.ensures.inside;
+  rows = c.in_ok-put_tick.ensures ∙ rows-more c.args.one.now c.loop-tick.tick c.loop-tick.states _ c.loop-tick.invariant.states c.loop-tick.invariant.rows;
+}
 
 pub returns : goal.returns
 returns c =
