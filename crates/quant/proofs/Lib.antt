@@ -1,4 +1,5 @@
 pub mod Bands
+pub mod Calls
 pub mod Casts
 pub mod Corners
 pub mod Division
