@@ -56,12 +56,13 @@ pub struct TankPart {
 }
 
 /// Whether no flow is negative, and each volume at least 1.
-fn begin_well(flow: Band, volume: Band) -> bool
+fn are_physical(flow: Band, volume: Band) -> bool
     ensures { result ≡ (int_le (pos 0) flow.lo && int_le (pos 1) volume.lo) }
 {
     0 <= flow.lo && 1 <= volume.lo
 }
 
+/// The limits: a band for each of the five quantities of a plant.
 #[tactic(auto, unfolding(crate::specs::OneTank::limits_of))]
 fn limits_of(node: &Value) -> Result<Limits, Unread>
     ensures exact { Gives result (limits_of (view node.now)) }
@@ -73,7 +74,7 @@ fn limits_of(node: &Value) -> Result<Limits, Unread>
     let temp = band_at(table, "temp")?;
     let volume = band_at(table, "volume")?;
     let signal = band_at(table, "signal")?;
-    if begin_well(flow, volume) {
+    if are_physical(flow, volume) {
         Ok(Limits {
             flow,
             conc,
@@ -86,6 +87,7 @@ fn limits_of(node: &Value) -> Result<Limits, Unread>
     }
 }
 
+/// How many ticks the plant runs, in one window that has at least as many.
 #[tactic(auto, unfolding(crate::specs::OneTank::ticks_of))]
 fn ticks_of(node: &Value) -> Result<u32, Unread>
     ensures exact { Gives result (ticks_of (view node.now)) }
@@ -97,6 +99,7 @@ fn ticks_of(node: &Value) -> Result<u32, Unread>
     Ok(ticks as u32)
 }
 
+/// A material feed of one band a channel, inside the limits.
 #[tactic(auto, unfolding(crate::specs::OneTank::inflow_of))]
 fn inflow_of(alloc: Global, node: &Value, limits: Limits) -> Result<Inflow, Unread>
     ensures exact { Gives result (inflow_of limits (view node.now)) }
@@ -117,6 +120,7 @@ fn inflow_of(alloc: Global, node: &Value, limits: Limits) -> Result<Inflow, Unre
     })
 }
 
+/// A signal feed of one band, inside the limits.
 #[tactic(auto, unfolding(crate::specs::OneTank::valve_of))]
 fn valve_of(alloc: Global, node: &Value, limits: Limits) -> Result<Valve, Unread>
     ensures exact { Gives result (valve_of limits (view node.now)) }
@@ -129,6 +133,7 @@ fn valve_of(alloc: Global, node: &Value, limits: Limits) -> Result<Valve, Unread
     Ok(Valve { name, value })
 }
 
+/// A tank between the feeds of these names, whose opening bands are inside the limits.
 #[tactic(auto, unfolding(crate::specs::OneTank::tank_of))]
 fn tank_of(
     alloc: Global,
@@ -160,6 +165,7 @@ fn tank_of(
     })
 }
 
+/// Whether the names of the two feeds and the tank differ.
 fn names_differ(plant: &OneTank) -> bool
     ensures { result ≡ names_differ plant.now }
 {
@@ -169,6 +175,7 @@ fn names_differ(plant: &OneTank) -> bool
     inflow != valve && inflow != unit && valve != unit
 }
 
+/// The two feeds: the material first, and then the signal.
 #[tactic(auto, unfolding(crate::specs::OneTank::feeds_of))]
 fn feeds_of(alloc: Global, table: &Table, limits: Limits) -> Result<(Inflow, Valve), Unread>
     ensures exact { Gives result (feeds_of limits (table_view table.now)) }
@@ -194,6 +201,7 @@ fn checked(keys: usize, plant: OneTank) -> Result<OneTank, Unread>
     }
 }
 
+/// The plant of a tree with the five keys of a plant and no others.
 #[tactic(auto, unfolding(crate::specs::OneTank::one_tank_of))]
 fn one_tank_of(alloc: Global, table: &Table) -> Result<OneTank, Unread>
     ensures exact { Gives result (one_tank_of (table_view table.now)) }
@@ -214,7 +222,10 @@ fn one_tank_of(alloc: Global, table: &Table) -> Result<OneTank, Unread>
     checked(key_count(table), plant)
 }
 
-/// Reads a text of at most 1,048,576 bytes.
+/// Reads a plant text of at most 1,048,576 bytes.
+///
+/// It answers `NotOneTank` where the text is longer, is not TOML, or holds anything but one tank and its two
+/// feeds, and `NoMemory` where memory ran out.
 #[tactic(auto, unfolding(crate::specs::OneTank::one_tank_in))]
 pub fn read_one_tank(alloc: Global, bytes: &[u8]) -> Result<OneTank, Unread>
     ensures exact { Gives result (one_tank_in bytes.now) }

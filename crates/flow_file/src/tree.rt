@@ -1,4 +1,4 @@
-//! Readers of the values in the tree that a TOML text is.
+//! Readers of the values in the tree that a TOML text is. Each answers `NotOneTank` where the value is not of its form.
 
 ghost use Rattle.std.specs.Prelude.{◌≡◌, ◌≤ℤ◌, IfOk, option_and_then};
 ghost use Rattle.std.specs.List.{list_all};
@@ -72,7 +72,7 @@ pub(crate) fn table_with(node: &Value, count: usize) -> Result<&Table, Unread>
 
 /// An array with so many values.
 #[tactic(auto, using(crate::proofs::Readers::item_count_is_length), unfolding(crate::specs::Tree::array_with))]
-pub(crate) fn array_with(node: &Value, count: usize) -> Result<&Array, Unread>
+fn array_with(node: &Value, count: usize) -> Result<&Array, Unread>
     ensures { GivesBy (λ array. array_view array.now) result (array_with count (view node.now)) }
 {
     match node.as_array() {
@@ -83,7 +83,7 @@ pub(crate) fn array_with(node: &Value, count: usize) -> Result<&Array, Unread>
 
 /// A whole number from `lo` to `hi`.
 #[tactic(auto, unfolding(crate::specs::Tree::number_in))]
-pub(crate) fn number_in(node: &Value, lo: i64, hi: i64) -> Result<i64, Unread>
+fn number_in(node: &Value, lo: i64, hi: i64) -> Result<i64, Unread>
     ensures exact { Gives result (number_in lo hi (view node.now)) }
     ensures within { IfOk result (λ number. (lo ≤ℤ number) × (number ≤ℤ hi)) }
 {
@@ -93,6 +93,7 @@ pub(crate) fn number_in(node: &Value, lo: i64, hi: i64) -> Result<i64, Unread>
     }
 }
 
+/// The band from `lo` to `hi`, where both are at most `MOST` from 0 and in this order.
 #[tactic(auto, unfolding(crate::specs::Tree::band_between))]
 fn band_between(lo: i64, hi: i64) -> Result<Band, Unread>
     ensures exact { Gives result (band_between lo hi) }
@@ -105,6 +106,7 @@ fn band_between(lo: i64, hi: i64) -> Result<Band, Unread>
     }
 }
 
+/// A band by its two ends in an array.
 #[tactic(auto, using(crate::proofs::Readers::no_pair), unfolding(crate::specs::Tree::pair_band))]
 fn pair_band(node: &Value) -> Result<Band, Unread>
     ensures exact { Gives result (pair_band (view node.now)) }
@@ -124,7 +126,7 @@ fn pair_band(node: &Value) -> Result<Band, Unread>
 
 /// A band of numbers: its two ends in an array, or one number.
 #[tactic(auto, unfolding(crate::specs::Tree::band_of))]
-pub(crate) fn band_of(node: &Value) -> Result<Band, Unread>
+fn band_of(node: &Value) -> Result<Band, Unread>
     ensures exact { Gives result (band_of (view node.now)) }
     ensures inside { IfOk result (λ band. IsBand band × IsInside band wide) }
 {
@@ -136,7 +138,7 @@ pub(crate) fn band_of(node: &Value) -> Result<Band, Unread>
 
 /// A band inside the limits.
 #[tactic(auto, unfolding(crate::specs::Tree::band_in))]
-pub(crate) fn band_in(node: &Value, limits: Band) -> Result<Band, Unread>
+fn band_in(node: &Value, limits: Band) -> Result<Band, Unread>
     ensures exact { Gives result (band_in limits (view node.now)) }
     ensures inside { IfOk result (λ band. IsBand band × IsInside band limits) }
 {
@@ -148,6 +150,7 @@ pub(crate) fn band_in(node: &Value, limits: Band) -> Result<Band, Unread>
     }
 }
 
+/// Whether the byte is a lowercase letter, a digit or `_`.
 fn is_name_byte(byte: u8) -> bool
     ensures { result ≡ is_name_byte byte }
 {
@@ -172,7 +175,7 @@ fn is_name(bytes: &[u8]) -> bool
 
 /// A name: 1 to 32 lowercase letters, digits and `_` that begin with a letter.
 #[tactic(auto, unfolding(crate::specs::Tree::name_of))]
-pub(crate) fn name_of(alloc: Global, node: &Value) -> Result<Text, Unread>
+fn name_of(alloc: Global, node: &Value) -> Result<Text, Unread>
     ensures { Gives result (name_of (view node.now)) }
 {
     match node.as_str() {
@@ -183,7 +186,7 @@ pub(crate) fn name_of(alloc: Global, node: &Value) -> Result<Text, Unread>
 
 /// This text and no other.
 #[tactic(auto, unfolding(crate::specs::Tree::text_is))]
-pub(crate) fn text_is(node: &Value, text: &[u8]) -> Result<(), Unread>
+fn text_is(node: &Value, text: &[u8]) -> Result<(), Unread>
     ensures { Gives result (text_is text.now (view node.now)) }
 {
     match node.as_str() {
