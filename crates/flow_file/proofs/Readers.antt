@@ -1,5 +1,5 @@
 -- What the tree of a text, a table and an array are, as the code finds it.
-use Rattle.std.proofs.Common.{◌≡◌, ◌≢◌, suc, Bool, true, false, List, ℕ, [], ◌∷◌, length, Option, Some, None, String, Global, get_or, ◌<◌, ◌≤◌, refl, sym, ap, ◌∙◌, inl, inr}
+use Rattle.std.proofs.Common.{◌≡◌, ◌≢◌, suc, List, ℕ, [], ◌∷◌, length, Some, None, String, Global, get_or, ◌<◌, ◌≤◌, refl, sym, ap, ◌∙◌, inl, inr}
 use Rattle.std.specs.Prelude.{IsUtf8}
 use Rattle.std.specs.Str.{is_utf8}
 use Rattle.std.proofs.lemmas.Bool.{cases_Bool}

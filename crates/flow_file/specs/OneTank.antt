@@ -1,10 +1,10 @@
 -- A plant text that holds one tank with its two feeds, and nothing else.
-use Rattle.std.specs.Prelude.{◌≡◌, ◌==◌, ◌≤◌, ◌&&◌, Bool, ℕ, ℤ, pos, nat_abs, nat_le, int_le, not, List, [], ◌∷◌, length, codes, bytes_eq, Option, Some, None, if◌then◌else◌}
+use Rattle.std.specs.Prelude.{◌≡◌, ◌==◌, ◌≤◌, ◌&&◌, Bool, ℕ, pos, nat_abs, nat_le, int_le, not, List, [], ◌∷◌, length, codes, bytes_eq, Option, Some, None, if◌then◌else◌}
 use Rattle.quant.specs.Interval.{Interval, Holds, AllInside, AllBands, IsInside, IsBand}
 use Rattle.quant.specs.Operation.{million}
 use Rattle.quant.specs.declared.limits.Limits.{Limits}
 use Rattle.basic_units.specs.Tank.{IsSound, state_limits}
-use Rattle.toml.specs.Data.{Data, Members, Items, get_item}
+use Rattle.toml.specs.Data.{Data, Members, get_item}
 use Rattle.flow_file.specs.declared.one_tank.OneTank.{OneTank}
 use Rattle.flow_file.specs.declared.one_tank.Inflow.{Inflow}
 use Rattle.flow_file.specs.declared.one_tank.Valve.{Valve}

@@ -1,9 +1,9 @@
 -- Values in the tree of tables that a TOML text is.
-use Rattle.std.specs.Prelude.{◌≡◌, ◌==◌, ◌&&◌, ◌||◌, ℕ, suc, ℤ, pos, nat_le, int_le, Bool, List, [], ◌∷◌, length, slice_index, codes, bytes_eq, Option, Some, None, if◌then◌else◌}
+use Rattle.std.specs.Prelude.{◌==◌, ◌&&◌, ◌||◌, ℕ, suc, ℤ, nat_le, int_le, Bool, List, length, slice_index, bytes_eq, Option, Some, None, if◌then◌else◌}
 use Rattle.std.specs.List.{list_all}
 use Rattle.std.specs.Str.{is_utf8}
-use Rattle.quant.specs.Interval.{Interval, point, wide}
-use Rattle.toml.specs.Data.{Data, integer, string, Items, no_items, item, Members, no_members, member, get_member, as_integer, as_str, as_array, as_table}
+use Rattle.quant.specs.Interval.{Interval, wide}
+use Rattle.toml.specs.Data.{Data, Items, no_items, item, Members, no_members, member, get_member, as_integer, as_str, as_array, as_table}
 use Rattle.toml.specs.Parse.{parse_document}
 use Rattle.flow_file.specs.Read.{◌>>=◌}
 

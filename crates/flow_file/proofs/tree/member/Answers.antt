@@ -1,4 +1,3 @@
-use Rattle.std.proofs.Common.{◌∙◌}
 use Rattle.toml.proofs.Views.{table_get}
 use Rattle.flow_file.proofs.tree.member.Goals as goal
 
