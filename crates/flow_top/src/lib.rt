@@ -10,3 +10,6 @@ mod words;
 pub use fault::memory_line;
 pub use laws::{printed_bands_hold_trajectories, worked_bands};
 pub use top::flow_top;
+
+#[cfg(test)]
+mod tests;

@@ -19,3 +19,6 @@ pub use limits::Limits;
 pub use shares::{MILLION, keep, keep_band, share, share_band};
 pub use sums::{add, add_band, sub, sub_band};
 pub use text::Text;
+
+#[cfg(test)]
+mod tests;

@@ -1,1 +1,14 @@
 pub mod Meets
+pub mod Sequences
+pub mod Ticks
+pub mod Chains
+pub mod States
+pub mod Quiet
+pub mod Growth
+pub mod Sweeps
+pub mod Seen
+pub mod Reorders
+pub mod Ordered
+pub mod Gathers
+pub mod Reached
+pub mod Adopted

@@ -1,5 +1,5 @@
 -- The relaxation core: versions of each stream, and steps that narrow one stream by one renewal. It knows no threads.
-use Rattle.std.specs.Prelude.{◌≡◌, ℕ, ◌+◌, ◌-◌, ◌<◌, Bool, true, false, List, [], ◌∷◌, ◌++◌, length, map, sum_by, slice_index_or, slice_set, if◌then◌else◌}
+use Rattle.std.specs.Prelude.{◌≡◌, ℕ, ◌-◌, ◌<◌, Bool, false, List, [], ◌∷◌, ◌++◌, length, map, sum_by, slice_index_or, slice_set, if◌then◌else◌}
 use Rattle.std.specs.List.{range_with_len}
 use Rattle.flowsheet.specs.Plant.{Origin, feed, port, unit_at, origin_of}
 use Rattle.relaxation.specs.Tube.{Tube, IsWithin, is_within, meet}

@@ -1,7 +1,7 @@
 -- The made versions of all histories in one list, by stamp and then by stream.
-use Rattle.std.specs.Prelude.{◌≡◌, ◌⊎◌, ◌==◌, ◌++◌, ℕ, ◌+◌, ◌<◌, ◌≤◌, false, List, [], ◌∷◌, length, map, drop, filter, flat_map, slice_index_or, IsPermutation}
-use Rattle.std.specs.List.{range_with_len, AllPairs}
-use Rattle.relaxation.specs.Tube.{Tube, meet}
+use Rattle.std.specs.Prelude.{◌≡◌, ◌⊎◌, ℕ, ◌<◌, ◌≤◌, false, List, [], ◌∷◌, length, map, drop, flat_map, IsPermutation}
+use Rattle.std.specs.List.{range_with_len}
+use Rattle.relaxation.specs.Tube.{meet}
 use Rattle.relaxation.specs.Window.{Window}
 use Rattle.relaxation.specs.Core.{Versions, Step, versions_of, last_of, step_renewal, is_idle, after_step, IsLegal}
 use Rattle.relaxation.specs.History.{Version, History, history_of}

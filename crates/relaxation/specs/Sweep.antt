@@ -1,9 +1,9 @@
 -- A sweep: each stream of a unit is renewed once from versions no older than the newest before the sweep, or is settled already.
-use Rattle.std.specs.Prelude.{◌≡◌, ◌⊎◌, ℕ, ◌+◌, ◌*◌, ◌-◌, ◌<◌, ◌≤◌, List, [], ◌∷◌, length, map, Contains, count_by, ◌==◌, slice_index_or}
+use Rattle.std.specs.Prelude.{◌≡◌, ◌⊎◌, ℕ, ◌+◌, ◌*◌, ◌-◌, ◌<◌, ◌≤◌, List, [], ◌∷◌, length, map, Contains, count_by, ◌==◌}
 use Rattle.flowsheet.specs.Plant.{Plant, Origin, feed, port, unit_at, origin_of, rank_of}
 use Rattle.flowsheet.specs.Reading.{on_bands}
 use Rattle.flowsheet.specs.Run.{run_streams}
-use Rattle.relaxation.specs.Tube.{Tube, at}
+use Rattle.relaxation.specs.Tube.{at}
 use Rattle.relaxation.specs.Window.{Window}
 use Rattle.relaxation.specs.Core.{Versions, Step, versions_of, last_of, AreLegal, replay, IsSettled}
 

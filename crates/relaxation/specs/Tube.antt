@@ -1,5 +1,5 @@
 -- A tube: for each tick of a window the bands of a stream's channels.
-use Rattle.std.specs.Prelude.{◌≡◌, ◌≢◌, ◌&&◌, ℕ, zero, suc, ◌+◌, Bool, true, false, int_le, nat_abs, ◌-ℤ◌, List, [], ◌∷◌, map, sum_by, slice_index_or}
+use Rattle.std.specs.Prelude.{◌≢◌, ◌&&◌, ℕ, Bool, true, false, int_le, nat_abs, ◌-ℤ◌, List, [], ◌∷◌, map, sum_by, slice_index_or}
 use Rattle.std.specs.Int.{int_min, int_max}
 use Rattle.std.specs.List.{range_with_len}
 use Rattle.quant.specs.Interval.{Interval, AllInside, AllBands}

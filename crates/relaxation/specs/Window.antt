@@ -1,5 +1,5 @@
 -- A window: some ticks of a plant, from bands carried into the first, with the feeds' bands and the tubes that its streams open with.
-use Rattle.std.specs.Prelude.{◌≡◌, ℕ, ◌+◌, ◌<◌, List, length, map, flat_map}
+use Rattle.std.specs.Prelude.{◌≡◌, ℕ, ◌<◌, List, length, flat_map}
 use Rattle.quant.specs.Interval.{Interval}
 use Rattle.flowsheet.specs.Plant.{Plant, IsRanked, feed, unit_at, origin_of}
 use Rattle.flowsheet.specs.Reading.{on_bands}

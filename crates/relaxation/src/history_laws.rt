@@ -1,5 +1,5 @@
 ghost use Rattle.std.specs.Prelude.{◌≡◌, ◌==◌, ℕ, ◌<◌, List, length, map, filter};
-ghost use Rattle.relaxation.specs.Window.{Window, IsOpen};
+ghost use Rattle.relaxation.specs.Window.{Window};
 ghost use Rattle.relaxation.specs.Core.{opening_versions, replay, AreLegal, AreNarrowing};
 ghost use Rattle.relaxation.specs.History.{Version, History, AreSound, IsMadeFrom, AllBegin};
 ghost use Rattle.relaxation.specs.Gathered.{Made, made_of, IsGathered, step_of, CanAdoptAll, tubes_of};
@@ -11,15 +11,15 @@ pub fn gathered_histories_are_adopted()
         (s : ℕ) → s < length histories → filter (λ (m : Made). m.stream == s) made ≡ made_of histories s }
 
     // Each can be adopted in its turn.
-    ensures adopted { (window : Window) (histories : List History) (made : List Made) → IsOpen window → AreSound window histories → IsGathered histories made →
+    ensures adopted { (window : Window) (histories : List History) (made : List Made) → AreSound window histories → IsGathered histories made →
         CanAdoptAll window (opening_versions window) made }
-    ensures legal { (window : Window) (histories : List History) (made : List Made) → IsOpen window → AreSound window histories → IsGathered histories made →
+    ensures legal { (window : Window) (histories : List History) (made : List Made) → AreSound window histories → IsGathered histories made →
         AreLegal window (opening_versions window) (map step_of made) }
-    ensures narrowing { (window : Window) (histories : List History) (made : List Made) → IsOpen window → AreSound window histories → IsGathered histories made →
+    ensures narrowing { (window : Window) (histories : List History) (made : List Made) → AreSound window histories → IsGathered histories made →
         AreNarrowing window (opening_versions window) (map step_of made) }
 
     // Their replay has the histories' tubes.
-    ensures replay { (window : Window) (histories : List History) (made : List Made) → IsOpen window → AreSound window histories → IsGathered histories made →
+    ensures replay { (window : Window) (histories : List History) (made : List Made) → AreSound window histories → IsGathered histories made →
         replay window (opening_versions window) (map step_of made) ≡ tubes_of histories }
 {}
 

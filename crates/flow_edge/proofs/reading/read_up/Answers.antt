@@ -10,9 +10,10 @@ use Rattle.flow_edge.proofs.reading.read_up.Goals as goal
 front-more : (text bytes all into_old into_new rest : List ℕ) (after : Option (List ℕ)) (k m n : ℕ) →
     bytes ≡ take k text → ReadsFront (drop k text) after into_old into_new n → n ≤ length into_new →
     all ≡ bytes ++ take n (into_new ++ rest) → m ≡ k + n → (all ≡ take m text) × (after ≡ Some (drop m text))
-front-more text bytes all into_old into_new rest after k m n h r within e f =
-    (e ∙ ap (λ xs. bytes ++ xs) (take-append-le n into_new rest within ∙ r.bytes) ∙ ap (λ xs. xs ++ take n (drop k text)) h ∙ sym (take-add k n text) ∙ ap (λ i. take i text) (sym f),
-     r.rest ∙ ap Some (drop-drop n k text) ∙ ap (λ i. Some (drop i text)) (sym f))
+front-more text bytes all into_old into_new rest after k m n h r within e f = (
+  e ∙ ap (λ xs. bytes ++ xs) (take-append-le n into_new rest within ∙ r.bytes) ∙ ap (λ xs. xs ++ take n (drop k text)) h ∙ sym (take-add k n text) ∙ ap (λ i. take i text) (sym f),
+  r.rest ∙ ap Some (drop-drop n k text) ∙ ap (λ i. Some (drop i text)) (sym f),
+)
 
 consumed-more : (o before after : Option (List ℕ)) (bytes all into_old into_new rest : List ℕ) (k m n : ℕ) →
     IfSome o (λ text. (bytes ≡ take k text) × (before ≡ Some (drop k text))) → Reads before after into_old into_new n → n ≤ length into_new →
@@ -42,17 +43,17 @@ pub returns-then-n-eq0-clause-ok : goal.returns-then-n-eq0-clause-ok
 returns-then-n-eq0-clause-ok g c =
     let r = rw c.if-n-eq0.true at c.in-Ok.ensures.ok in
     all-read _ _ _ _ _ _ _ _ c.reading.invariant.consumed r
-      (simp length-take (omega arith)) (omega arith)
+    (simp length-take (omega arith)) (omega arith)
 
 pub reading-preserved : goal.reading-preserved
 reading-preserved g c =
-   let enough : c.in-Ok.n ≤ length c.read.new.into = omega (arith, c.in-Ok.ensures.ok.fits, c.read.auto.into) in
-   let longer : vec_len c.extend_from_slice.new.self ≡ vec_len c.reading.bytes + c.in-Ok.n =
-       c.in_ok-extend_from_slice.ensures.len ∙ ap (λ xs. vec_len c.reading.bytes + length xs) (take-append-le c.in-Ok.n c.read.new.into _ enough) ∙ ap (λ i. vec_len c.reading.bytes + i) (length-take-le c.in-Ok.n c.read.new.into enough) in
-   let room : length (take c.min-room.result c.reading.buffer) ≤ c.min-room.result = simp length-take (omega arith) in
-   record {
+    let enough : c.in-Ok.n ≤ length c.read.new.into = omega (arith, c.in-Ok.ensures.ok.fits, c.read.auto.into) in
+    let longer : vec_len c.extend_from_slice.new.self ≡ vec_len c.reading.bytes + c.in-Ok.n =
+    c.in_ok-extend_from_slice.ensures.len ∙ ap (λ xs. vec_len c.reading.bytes + length xs) (take-append-le c.in-Ok.n c.read.new.into _ enough) ∙ ap (λ i. vec_len c.reading.bytes + i) (length-take-le c.in-Ok.n c.read.new.into enough) in
+    let room : length (take c.min-room.result c.reading.buffer) ≤ c.min-room.result = simp length-take (omega arith) in
+    record {
       consumed = consumed-more _ _ _ _ _ _ _ _ _ _ _ c.reading.invariant.consumed c.in-Ok.ensures.ok enough c.in_ok-extend_from_slice.ensures.items longer;
       untold = λ e. c.in-Ok.ensures.ok.untold (c.reading.invariant.untold e);
       within = omega (arith, c.in-Ok.ensures.ok.fits);
       counted = omega (arith, c.reading.invariant.counted, c.in-Ok.ensures.counted);
-   }
+    }

@@ -1,0 +1,96 @@
+use super::*;
+use std::test::Fail;
+
+#[test]
+fn shares_round_down(rt: HostRuntime) {
+    let rows = [
+        (share(7, 500_000), 3),
+        (keep(7, 500_000), 4),
+        (share(-7, 500_000), -4),
+        (keep(-7, 500_000), -3),
+        (share(10, 2_000_000), 10),
+        (share(10, -5), 0),
+        // its product has more than 64 bits
+        (
+            share(10_000_000_000_000_000, 999_999),
+            9_999_990_000_000_000,
+        ),
+    ];
+    for (got, want) in rows {
+        assert_eq!(rt; got, want);
+    }
+}
+
+#[test]
+fn blends_weigh_by_volume(rt: HostRuntime) {
+    let rows = [
+        (blend(1, 100, 10, 1_002), 1),
+        // more comes than there is
+        (blend(50, 80, 30, 20), 80),
+        (
+            blend(1_000_000_000_000, -1_000_000_000_000, 1, 1_000_000_000_000),
+            999_999_999_998,
+        ),
+    ];
+    for (got, want) in rows {
+        assert_eq!(rt; got, want);
+    }
+}
+
+#[test]
+fn sums_and_clamps_reach_their_ends(rt: HostRuntime) {
+    const FAR: i64 = 4_000_000_000_000_000_000;
+    let limits = Band { lo: 10, hi: 20 };
+    let rows = [
+        (add(FAR, FAR), 8_000_000_000_000_000_000),
+        (add(-FAR, -FAR), -8_000_000_000_000_000_000),
+        (sub(FAR, -FAR), 8_000_000_000_000_000_000),
+        (sub(-FAR, FAR), -8_000_000_000_000_000_000),
+        (clamp(i64::MIN, limits), 10),
+        (clamp(10, limits), 10),
+        (clamp(15, limits), 15),
+        (clamp(20, limits), 20),
+        (clamp(i64::MAX, limits), 20),
+    ];
+    for (got, want) in rows {
+        assert_eq!(rt; got, want);
+    }
+}
+
+#[test]
+fn bands_are_exact_hulls(rt: HostRuntime) {
+    let seven = Band { lo: -7, hi: 7 };
+    let part = Band { lo: 10, hi: 12 };
+    let volume = Band { lo: 10, hi: 20 };
+    let (low, high) = (Band { lo: 1, hi: 2 }, Band { lo: 5, hi: 9 });
+    let (zero, hundred) = (Band::point(0), Band::point(100));
+    let rows = [
+        (share_band(seven, Band::point(500_000)), -4, 3),
+        (keep_band(seven, Band { lo: 0, hi: MILLION }), -7, 7),
+        (blend_band(zero, hundred, part, volume), 50, 100),
+        // the new below the old
+        (blend_band(hundred, zero, part, volume), 0, 50),
+        (add_band(low, high), 6, 11),
+        (sub_band(low, high), -8, -3),
+        (clamp_band(Band { lo: 0, hi: 100 }, volume), 10, 20),
+    ];
+    for (got, lo, hi) in rows {
+        assert_eq!(rt; (got.lo, got.hi), (lo, hi));
+    }
+}
+
+#[test]
+fn bands_have_ordered_ends(rt: HostRuntime) {
+    assert_eq!(rt; Band::new(2, 3), Some(Band { lo: 2, hi: 3 }));
+    assert_eq!(rt; Band::new(3, 3), Some(Band::point(3)));
+    assert_eq!(rt; Band::new(3, 2), None);
+}
+
+#[test]
+fn texts_keep_their_bytes(rt: HostRuntime) -> Result<(), Fail> {
+    let name = Text::copied(rt.alloc(), b"tank")?;
+    assert!(rt; name.as_bytes() == b"tank".as_slice());
+    let name = Text::new(b"feed".to_vec(rt.alloc())?);
+    assert!(rt; name.as_bytes() == b"feed".as_slice());
+    Ok(())
+}
