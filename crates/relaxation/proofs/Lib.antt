@@ -12,3 +12,4 @@ pub mod Ordered
 pub mod Gathers
 pub mod Reached
 pub mod Adopted
+pub mod Worked

@@ -4,3 +4,4 @@ pub mod Core
 pub mod Sweep
 pub mod History
 pub mod Gathered
+pub mod Worked

@@ -10,7 +10,9 @@
 mod core_laws;
 mod history_laws;
 mod sweep_laws;
+mod worked_laws;
 
 pub use core_laws::{idle_steps_change_nothing, legal_steps_keep_the_run, steps_join};
 pub use history_laws::{gathered_histories_are_adopted, seen_histories_are_enough};
 pub use sweep_laws::{appended_versions_keep_steps, sweeps_settle};
+pub use worked_laws::worked_window;
