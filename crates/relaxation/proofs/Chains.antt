@@ -5,10 +5,11 @@ use Rattle.std.proofs.lemmas.Bool.{cases_lt}
 use Rattle.relaxation.specs.Tube.{Tube, IsWithin, IsNarrower, HasNumbers, width}
 use Rattle.relaxation.proofs.Meets.{within-itself, within-through, numbers-wider, width-falls}
 
--- a version of the list, and the newest
+-- the version with a number
 abbrev pub tube_at : List Tube → ℕ → Tube
 tube_at versions k = slice_index_or versions k []
 
+-- and the last one
 abbrev pub newest : List Tube → Tube
 newest versions = tube_at versions (length versions - 1)
 
@@ -30,16 +31,19 @@ versions_open run opening h = record {
   counted = omega arith;
 }
 
--- what stands in a list with one more tube
+-- a list with one more tube is longer by 1
 push-length : (versions : List Tube) (T : Tube) → length (versions ++ T ∷ []) ≡ length versions + 1
 push-length versions T = length-append versions (T ∷ [])
 
+-- the old tubes stay where they were
 pub push-old : (versions : List Tube) (T : Tube) (k : ℕ) → k < length versions → tube_at (versions ++ T ∷ []) k ≡ tube_at versions k
 push-old versions T k h = get_or_append_left versions (T ∷ []) [] k h
 
+-- and the new one comes after them
 push-new : (versions : List Tube) (T : Tube) (k : ℕ) → length versions ≡ k → tube_at (versions ++ T ∷ []) k ≡ T
 push-new versions T k e = get_or_push versions T [] k e
 
+-- it is the newest
 pub push-newest : (versions : List Tube) (T : Tube) → newest (versions ++ T ∷ []) ≡ T
 push-newest versions T = push-new versions T (length (versions ++ T ∷ []) - 1) (omega (arith, push-length versions T))
 
@@ -68,7 +72,7 @@ versions_push run opening versions T numbers are h narrow = record {
       omega (arith, push-length versions T);
 }
 
--- later versions lie in earlier ones
+-- versions d places later lie in earlier ones
 later-within : (run opening : Tube) (versions : List Tube) → AreVersions run opening versions →
     (d k : ℕ) → k + d < length versions → IsWithin (tube_at versions (k + d)) (tube_at versions k)
 later-within run opening versions are zero k l = subst (λ i. IsWithin (tube_at versions i) (tube_at versions k)) (omega arith) (within-itself (tube_at versions k))
@@ -77,6 +81,7 @@ later-within run opening versions are (suc d) k l =
     (subst (λ i. IsWithin (tube_at versions i) (tube_at versions (k + d))) (omega arith) (are.narrower (k + d) (omega arith)).within)
     (later-within run opening versions are d k (omega arith))
 
+-- and so do all later ones
 pub versions-fall : (run opening : Tube) (versions : List Tube) → AreVersions run opening versions →
     (k i : ℕ) → k ≤ i → i < length versions → IsWithin (tube_at versions i) (tube_at versions k)
 versions-fall run opening versions are k i h l =

@@ -1,11 +1,14 @@
 pub mod Meets
-pub mod Sequences
 pub mod Ticks
+pub mod Sequences
 pub mod Chains
+pub mod Rows
 pub mod States
 pub mod Quiet
 pub mod Growth
+pub mod Places
 pub mod Sweeps
+pub mod Counts
 pub mod Seen
 pub mod Reorders
 pub mod Ordered

@@ -1,30 +1,33 @@
 -- Tubes that lie in one another, and their meets.
-use Rattle.std.proofs.Common.{◌≡◌, ℕ, ◌+◌, ◌<◌, ◌≤◌, true, List, [], ◌∷◌, refl, arith, inl, inr}
-use Rattle.std.specs.Prelude.{◌&&◌, sum_by, nat_abs, int_le, ◌-ℤ◌}
+use Rattle.std.proofs.Common.{◌≡◌, ℕ, ◌+◌, ◌<◌, ◌≤◌, List, [], ◌∷◌, arith, inl, inr, refl, true}
+use Rattle.std.specs.List.{sum_by}
+use Rattle.std.specs.Prelude.{◌&&◌, nat_abs, int_le, ◌-ℤ◌}
 use Rattle.std.specs.Int.{int_min, int_max}
-use Rattle.std.proofs.lemmas.Int.{ints, clamps}
 use Rattle.std.proofs.lemmas.Bool.{cases_lt, and_parts}
 use Rattle.std.proofs.lemmas.List.Sums.{sum_by-cons}
-use Rattle.quant.specs.Interval.{Interval, IsBand, IsInside, AllBands, AllInside}
+use Rattle.std.proofs.lemmas.Int.{ints, clamps}
 use Rattle.quant.proofs.Calls.{same_cons}
+use Rattle.quant.specs.Interval.{Interval, AllBands, AllInside, IsBand, IsInside}
 use Rattle.quant.proofs.Hulls.{inside-same}
 use Rattle.flowsheet.proofs.Bands.{inside-itself, inside-wider}
-use Rattle.relaxation.specs.Tube.{Tube, IsWithin, all_inside, is_within, IsNarrower, HasNumbers, meet_bands, meet, width}
+use Rattle.relaxation.specs.Tube.{Tube, IsWithin, IsNarrower, HasNumbers, width, is_within, meet, all_inside, meet_bands}
 
 -- the test of two bands says that one lies in the other
 inside-yes : (A B : Interval) → (int_le B.lo A.lo && int_le A.hi B.hi) ≡ true → IsInside A B
 inside-yes A B e = record { above = grind (arith, ints); below = grind (arith, ints) }
 
+-- and one that lies in another passes it
 inside-test : (A B : Interval) → IsInside A B → (int_le B.lo A.lo && int_le A.hi B.hi) ≡ true
 inside-test A B h = grind (arith, ints)
 
--- and so does that of two lists of bands
+-- the test of two lists of bands says the same
 all_inside-yes : (As Bs : List Interval) → all_inside As Bs ≡ true → AllInside As Bs
 all_inside-yes [] [] e = tt
 all_inside-yes [] (B ∷ Bs) e = cc
 all_inside-yes (A ∷ As) [] e = cc
 all_inside-yes (A ∷ As) (B ∷ Bs) e = (inside-yes A B (and_parts _ _ e).0, all_inside-yes As Bs (and_parts _ _ e).1)
 
+-- and is passed
 all_inside-test : (As Bs : List Interval) → AllInside As Bs → all_inside As Bs ≡ true
 all_inside-test [] [] h = refl
 all_inside-test [] (B ∷ Bs) h = absurd h
@@ -38,16 +41,19 @@ within-yes [] (B ∷ Bs) e = cc
 within-yes (A ∷ As) [] e = cc
 within-yes (A ∷ As) (B ∷ Bs) e = (all_inside-yes A B (and_parts _ _ e).0, within-yes As Bs (and_parts _ _ e).1)
 
+-- and is passed
 pub within-test : (A B : Tube) → IsWithin A B → is_within A B ≡ true
 within-test [] [] h = refl
 within-test [] (B ∷ Bs) h = absurd h
 within-test (A ∷ As) [] h = absurd h
 within-test (A ∷ As) (B ∷ Bs) h = rw (all_inside-test A B h.0) (within-test As Bs h.1)
 
+-- a tube lies in itself
 pub within-itself : (A : Tube) → IsWithin A A
 within-itself [] = tt
 within-itself (A ∷ As) = (inside-itself A, within-itself As)
 
+-- and in what a wider tube lies in
 pub within-through : (A B C : Tube) → IsWithin A B → IsWithin B C → IsWithin A C
 within-through [] [] [] h k = tt
 within-through [] [] (C ∷ Cs) h k = absurd k
@@ -56,13 +62,14 @@ within-through (A ∷ As) [] Cs h k = absurd h
 within-through (A ∷ As) (B ∷ Bs) [] h k = absurd k
 within-through (A ∷ As) (B ∷ Bs) (C ∷ Cs) h k = (inside-wider A B C h.0 k.0, within-through As Bs Cs h.1 k.1)
 
--- within each other they are one
+-- lists of bands that lie in each other are one
 pub inside-both : (As Bs : List Interval) → AllInside As Bs → AllInside Bs As → As ≡ Bs
 inside-both [] [] h k = refl
 inside-both [] (B ∷ Bs) h k = absurd h
 inside-both (A ∷ As) [] h k = absurd h
 inside-both (A ∷ As) (B ∷ Bs) h k = same_cons A B As Bs (inside-same A B h.0 k.0) (inside-both As Bs h.1 k.1)
 
+-- and so are tubes
 pub within-both : (A B : Tube) → IsWithin A B → IsWithin B A → A ≡ B
 within-both [] [] h k = refl
 within-both [] (B ∷ Bs) h k = absurd h
@@ -73,19 +80,22 @@ within-both (A ∷ As) (B ∷ Bs) h k = same_cons A B As Bs (inside-both A B h.0
 meet-band : Interval → Interval → Interval
 meet-band A B = record { lo = int_max A.lo B.lo; hi = int_min A.hi B.hi }
 
--- the meet of two bands lies in both, and holds what both hold
+-- the meet of two bands lies in the first
 band-left : (A B : Interval) → IsInside (meet-band A B) A
 unfolding meet-band
 band-left A B = record { above = omega (arith, ints, clamps); below = omega (arith, ints, clamps) }
 
+-- and in the second
 band-right : (A B : Interval) → IsInside (meet-band A B) B
 unfolding meet-band
 band-right A B = record { above = omega (arith, ints, clamps); below = omega (arith, ints, clamps) }
 
+-- and holds what both hold
 band-holds : (R A B : Interval) → IsInside R A → IsInside R B → IsInside R (meet-band A B)
 unfolding meet-band
 band-holds R A B h k = record { above = omega (arith, ints, clamps); below = omega (arith, ints, clamps) }
 
+-- a band lies in itself
 band-itself : (A : Interval) → IsInside A A
 band-itself A = record { above = omega (arith, ints); below = omega (arith, ints) }
 
@@ -93,19 +103,20 @@ band-itself A = record { above = omega (arith, ints); below = omega (arith, ints
 band-wider : (A B : Interval) → IsInside A B → meet-band A B ≡ A
 band-wider A B h = inside-same (meet-band A B) A (band-left A B) (band-holds A A B (band-itself A) h)
 
--- the meet with a wider tube is the tube itself
+-- the same of lists of bands
 bands-wider : (As Bs : List Interval) → AllInside As Bs → meet_bands As Bs ≡ As
 unfolding meet-band
 bands-wider [] Bs h = refl
 bands-wider (A ∷ As) [] h = absurd h
 bands-wider (A ∷ As) (B ∷ Bs) h = same_cons (meet-band A B) A (meet_bands As Bs) As (band-wider A B h.0) (bands-wider As Bs h.1)
 
+-- and of tubes
 pub meet-wider : (A B : Tube) → IsWithin A B → meet A B ≡ A
 meet-wider [] B h = refl
 meet-wider (A ∷ As) [] h = absurd h
 meet-wider (A ∷ As) (B ∷ Bs) h = same_cons (meet_bands A B) A (meet As Bs) As (bands-wider A B h.0) (meet-wider As Bs h.1)
 
--- the meet of two lists of bands that hold a third holds it, and lies in both
+-- the meet of two lists of bands that hold a third holds it
 bands-holds : (Rs As Bs : List Interval) → AllInside Rs As → AllInside Rs Bs → AllInside Rs (meet_bands As Bs)
 unfolding meet-band
 bands-holds [] [] Bs h k = tt
@@ -114,6 +125,7 @@ bands-holds (R ∷ Rs) [] Bs h k = absurd h
 bands-holds (R ∷ Rs) (A ∷ As) [] h k = absurd k
 bands-holds (R ∷ Rs) (A ∷ As) (B ∷ Bs) h k = (band-holds R A B h.0 k.0, bands-holds Rs As Bs h.1 k.1)
 
+-- and lies in the first
 bands-left : (Rs As Bs : List Interval) → AllInside Rs As → AllInside Rs Bs → AllInside (meet_bands As Bs) As
 unfolding meet-band
 bands-left [] [] Bs h k = tt
@@ -122,6 +134,7 @@ bands-left (R ∷ Rs) [] Bs h k = absurd h
 bands-left (R ∷ Rs) (A ∷ As) [] h k = absurd k
 bands-left (R ∷ Rs) (A ∷ As) (B ∷ Bs) h k = (band-left A B, bands-left Rs As Bs h.1 k.1)
 
+-- and in the second
 bands-right : (Rs As Bs : List Interval) → AllInside Rs As → AllInside Rs Bs → AllInside (meet_bands As Bs) Bs
 unfolding meet-band
 bands-right [] [] [] h k = tt
@@ -131,7 +144,7 @@ bands-right (R ∷ Rs) [] Bs h k = absurd h
 bands-right (R ∷ Rs) (A ∷ As) [] h k = absurd k
 bands-right (R ∷ Rs) (A ∷ As) (B ∷ Bs) h k = (band-right A B, bands-right Rs As Bs h.1 k.1)
 
--- the same of tubes
+-- the meet of two tubes that hold a third holds it
 pub meet-holds : (R A B : Tube) → IsWithin R A → IsWithin R B → IsWithin R (meet A B)
 meet-holds [] [] B h k = tt
 meet-holds [] (A ∷ As) B h k = absurd h
@@ -139,6 +152,7 @@ meet-holds (R ∷ Rs) [] B h k = absurd h
 meet-holds (R ∷ Rs) (A ∷ As) [] h k = absurd k
 meet-holds (R ∷ Rs) (A ∷ As) (B ∷ Bs) h k = (bands-holds R A B h.0 k.0, meet-holds Rs As Bs h.1 k.1)
 
+-- and lies in the first
 pub meet-left : (R A B : Tube) → IsWithin R A → IsWithin R B → IsWithin (meet A B) A
 meet-left [] [] B h k = tt
 meet-left [] (A ∷ As) B h k = absurd h
@@ -146,6 +160,7 @@ meet-left (R ∷ Rs) [] B h k = absurd h
 meet-left (R ∷ Rs) (A ∷ As) [] h k = absurd k
 meet-left (R ∷ Rs) (A ∷ As) (B ∷ Bs) h k = (bands-left R A B h.0 k.0, meet-left Rs As Bs h.1 k.1)
 
+-- and in the second
 pub meet-right : (R A B : Tube) → IsWithin R A → IsWithin R B → IsWithin (meet A B) B
 meet-right [] [] [] h k = tt
 meet-right [] [] (B ∷ Bs) h k = absurd k
@@ -158,12 +173,14 @@ meet-right (R ∷ Rs) (A ∷ As) (B ∷ Bs) h k = (bands-right R A B h.0 k.0, me
 band-numbers : (A B : Interval) → IsBand A → IsInside A B → IsBand B
 band-numbers A B h k = record { ordered = omega (arith, ints) }
 
+-- so has each of a list of bands
 pub bands-numbers : (As Bs : List Interval) → AllBands As → AllInside As Bs → AllBands Bs
 bands-numbers [] [] h k = tt
 bands-numbers [] (B ∷ Bs) h k = absurd k
 bands-numbers (A ∷ As) [] h k = absurd k
 bands-numbers (A ∷ As) (B ∷ Bs) h k = (band-numbers A B h.0 k.0, bands-numbers As Bs h.1 k.1)
 
+-- and of a tube
 pub numbers-wider : (A B : Tube) → HasNumbers A → IsWithin A B → HasNumbers B
 numbers-wider [] [] h k = tt
 numbers-wider [] (B ∷ Bs) h k = absurd k
@@ -174,11 +191,12 @@ numbers-wider (A ∷ As) (B ∷ Bs) h k = (bands-numbers A B h.0 k.0, numbers-wi
 band_width : Interval → ℕ
 band_width B = nat_abs (B.hi -ℤ B.lo)
 
--- a band in another is no wider, and if it is no narrower it is this
+-- a band in another is no wider
 band-width_le : (A B : Interval) → IsBand A → IsInside A B → band_width A ≤ band_width B
 unfolding band_width
 band-width_le A B h k = omega (arith, ints)
 
+-- and holds this if it is no narrower
 band-width_low : (A B : Interval) → IsBand A → IsInside A B → band_width B ≤ band_width A → IsInside B A
 unfolding band_width
 band-width_low A B h k m = record { above = omega (arith, ints); below = omega (arith, ints) }
@@ -187,16 +205,19 @@ band-width_low A B h k m = record { above = omega (arith, ints); below = omega (
 bands_width : List Interval → ℕ
 bands_width Bs = sum_by (λ (B : Interval). nat_abs (B.hi -ℤ B.lo)) Bs
 
+-- the first band's and the rest's
 bands-width_cons : (B : Interval) (Bs : List Interval) → bands_width (B ∷ Bs) ≡ band_width B + bands_width Bs
 unfolding band_width bands_width
 bands-width_cons B Bs = sum_by-cons (λ (A : Interval). nat_abs (A.hi -ℤ A.lo)) B Bs
 
+-- bands in others are no wider
 bands-width_le : (As Bs : List Interval) → AllBands As → AllInside As Bs → bands_width As ≤ bands_width Bs
 bands-width_le [] [] h k = omega arith
 bands-width_le [] (B ∷ Bs) h k = absurd k
 bands-width_le (A ∷ As) [] h k = absurd k
 bands-width_le (A ∷ As) (B ∷ Bs) h k = omega (arith, bands-width_cons A As, bands-width_cons B Bs, band-width_le A B h.0 k.0, bands-width_le As Bs h.1 k.1)
 
+-- and hold these if they are no narrower
 bands-width_low : (As Bs : List Interval) → AllBands As → AllInside As Bs → bands_width Bs ≤ bands_width As → AllInside Bs As
 bands-width_low [] [] h k m = tt
 bands-width_low [] (B ∷ Bs) h k m = absurd k
@@ -208,17 +229,19 @@ bands-width_low (A ∷ As) (B ∷ Bs) h k m =
       bands-width_low As Bs h.1 k.1 (omega (arith, bands-width_cons A As, bands-width_cons B Bs)),
     )
 
+-- the width at the first tick and the rest's
 width-cons : (B : List Interval) (Bs : Tube) → width (B ∷ Bs) ≡ bands_width B + width Bs
 unfolding bands_width
 width-cons B Bs = sum_by-cons (λ bands. sum_by (λ (A : Interval). nat_abs (A.hi -ℤ A.lo)) bands) B Bs
 
--- so is a tube
+-- a tube in another is no wider
 width-le : (A B : Tube) → HasNumbers A → IsWithin A B → width A ≤ width B
 width-le [] [] h k = omega arith
 width-le [] (B ∷ Bs) h k = absurd k
 width-le (A ∷ As) [] h k = absurd k
 width-le (A ∷ As) (B ∷ Bs) h k = omega (arith, width-cons A As, width-cons B Bs, bands-width_le A B h.0 k.0, width-le As Bs h.1 k.1)
 
+-- and holds this if it is no narrower
 width-low : (A B : Tube) → HasNumbers A → IsWithin A B → width B ≤ width A → IsWithin B A
 width-low [] [] h k m = tt
 width-low [] (B ∷ Bs) h k m = absurd k

@@ -1,28 +1,29 @@
 -- A quiet state is the run.
-use Rattle.std.proofs.Common.{◌≡◌, ℕ, zero, suc, ◌<◌, List, length, map, refl, sym, ap, ◌∙◌, subst, arith}
+use Rattle.std.proofs.Common.{◌≡◌, ℕ, zero, suc, ◌<◌, List, length, sym, ap, ◌∙◌, subst, arith, refl, map}
 use Rattle.std.proofs.lemmas.List.Folds.{flat_map-map}
 use Rattle.quant.specs.Interval.{Interval, AllBands, AllInside}
-use Rattle.flowsheet.specs.Plant.{PlantUnit, feed, port, unit_at, origin_of}
-use Rattle.flowsheet.specs.Reading.{Reader, on_bands, inputs_of}
-use Rattle.flowsheet.specs.Renewal.{renewed_states, renewed, renewed_origin, renewed_stream}
+use Rattle.flowsheet.specs.Plant.{feed, port, unit_at, origin_of, PlantUnit}
+use Rattle.flowsheet.specs.Reading.{on_bands, inputs_of, Reader}
+use Rattle.flowsheet.specs.Renewal.{renewed, renewed_states, renewed_origin, renewed_stream}
 use Rattle.flowsheet.proofs.Bands.{inside-itself}
 use Rattle.flowsheet.proofs.Ranks.{source, from_feed, from_port}
 use Rattle.flowsheet.proofs.Readings.{same-kept, shown-kept, stepped-kept}
 use Rattle.flowsheet.proofs.Tubes.{quiet-inside}
-use Rattle.relaxation.specs.Tube.{at, IsWithin}
-use Rattle.relaxation.specs.Window.{Window, IsOpen, run_tube, row_of, renewal}
+use Rattle.relaxation.specs.Tube.{IsWithin, at}
+use Rattle.relaxation.specs.Window.{Window, IsOpen, renewal, run_tube, row_of}
 use Rattle.relaxation.specs.Core.{Versions, last_of, IsSettled, IsQuiet}
 use Rattle.relaxation.proofs.Meets.{within-both, numbers-wider}
 use Rattle.relaxation.proofs.Ticks.{at-tube_of, length-tube_of, within-length, within-at, within-each, numbers-at}
-use Rattle.relaxation.proofs.States.{KeepsRun, run_at, run-numbers, last-holds}
+use Rattle.relaxation.proofs.States.{run_at, run-numbers, KeepsRun, last-holds}
 
--- renewals from equal rows are equal
+-- states renewed from equal rows are equal
 states-rows : {A : Type 0} (read : Reader A) (unit : PlantUnit) (carried : List A) (rows other : ℕ → List A) →
     ((q : ℕ) → rows q ≡ other q) → (t : ℕ) → renewed_states read unit carried rows t ≡ renewed_states read unit carried other t
 states-rows read unit carried rows other h zero = refl
 states-rows read unit carried rows other h (suc t) =
     stepped-kept (same-kept read) unit _ _ _ _ (states-rows read unit carried rows other h t) (h t)
 
+-- and so is what they show
 renewed-rows : {A : Type 0} (read : Reader A) (unit : PlantUnit) (p : ℕ) (carried : List A) (rows other : ℕ → List A) →
     ((q : ℕ) → rows q ≡ other q) → (t : ℕ) → renewed read unit p carried rows t ≡ renewed read unit p carried other t
 renewed-rows read unit p carried rows other h t =

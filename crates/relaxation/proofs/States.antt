@@ -1,67 +1,26 @@
 -- Legal steps keep the run: what holds of the versions of all streams holds after each step.
-use Rattle.std.proofs.Common.{◌≡◌, ℕ, suc, ◌+◌, ◌-◌, ◌<◌, ◌≤◌, true, false, List, [], ◌∷◌, ◌++◌, length, Contains, ◌≢◌, slice_index_or, refl, sym, ap, ◌∙◌, subst, arith, inl, inr}
-use Rattle.std.proofs.lemmas.Bool.{cases_eq, cases_Bool, both_ways}
-use Rattle.std.proofs.lemmas.List.{get_or-set_same, get_or-set_other, length-set}
-use Rattle.std.proofs.lemmas.List.FromFn.{get_or-map-range_with_len, length-map-range_with_len}
-use Rattle.std.proofs.lemmas.List.Sums.{sum_by-cons}
-use Rattle.std.specs.List.{range_with_len, sum_by}
+use Rattle.std.proofs.Common.{◌≡◌, ℕ, ◌<◌, List, [], ◌∷◌, ◌++◌, length, sym, ap, ◌∙◌, subst, arith, inl, inr, true, false, Contains}
 use Rattle.std.specs.Prelude.{flat_map}
+use Rattle.std.proofs.lemmas.List.{get_or-set_same, length-set}
+use Rattle.std.proofs.lemmas.Bool.{cases_eq, cases_Bool, both_ways}
+use Rattle.std.proofs.lemmas.List.FromFn.{get_or-map-range_with_len, length-map-range_with_len}
 use Rattle.quant.specs.Interval.{Interval, AllBands, AllInside}
 use Rattle.flowsheet.specs.Plant.{port, unit_at, origin_of}
-use Rattle.flowsheet.specs.Reading.{Reader, on_bands}
+use Rattle.flowsheet.specs.Reading.{on_bands}
 use Rattle.flowsheet.specs.Run.{run_streams}
 use Rattle.flowsheet.proofs.Bands.{inside-itself}
 use Rattle.flowsheet.proofs.Ranks.{source, from_feed, from_port, unit_there}
-use Rattle.flowsheet.proofs.Readings.{AreBandsIn, IsKept, bands-kept}
-use Rattle.flowsheet.proofs.Runs.{streams-related}
+use Rattle.flowsheet.proofs.Readings.{AreBandsIn, bands-kept}
 use Rattle.flowsheet.proofs.Renewals.{stream-renewed}
-use Rattle.relaxation.specs.Tube.{Tube, at, IsWithin, IsNarrower, HasNumbers, meet, width}
-use Rattle.relaxation.specs.Window.{Window, IsOpen, run_tube, row_of, renewal}
-use Rattle.relaxation.specs.Core.{Versions, Step, opening_versions, versions_of, version_at, last_of, named, AreThere, origin_renewal, step_renewal, IsLegalFrom, IsLegal, is_idle, after_step, replay, AreLegal, appended}
-use Rattle.relaxation.specs.Sweep.{AreNewest}
+use Rattle.flowsheet.proofs.Runs.{streams-related}
+use Rattle.relaxation.specs.Tube.{Tube, IsWithin, IsNarrower, HasNumbers, meet, at}
+use Rattle.relaxation.specs.Window.{Window, IsOpen, renewal, run_tube, row_of}
+use Rattle.relaxation.specs.Core.{Versions, Step, versions_of, last_of, IsLegal, is_idle, after_step, replay, AreLegal, version_at, named, AreThere, origin_renewal, step_renewal, IsLegalFrom, opening_versions}
 use Rattle.relaxation.proofs.Meets.{within-yes, within-test, meet-wider, meet-holds, meet-left, meet-right, numbers-wider}
 use Rattle.relaxation.proofs.Ticks.{at-tube_of, within-at, tube-within, tube-numbers}
+use Rattle.relaxation.proofs.Sequences.{after-idle, after-narrows, versions-elsewhere}
 use Rattle.relaxation.proofs.Chains.{AreVersions, versions_open, versions_push}
-use Rattle.relaxation.proofs.Sequences.{after-idle, after-narrows}
-
--- The row that named versions give at a tick is related to the streams', where each version at its number is. The numbers are
--- at least those of the newest versions before.
-pub row-related : {read other : Reader Interval} {R : List Interval → List Interval → Type 0} → IsKept read other R →
-    (x : ℕ → List Interval) (before state : Versions) (t : ℕ) (reads numbers : List ℕ) → AreNewest before reads numbers → AreThere state reads numbers →
-    ((q k : ℕ) → Contains reads q → length (versions_of before q) - 1 ≤ k → k < length (versions_of state q) → R (x q) (at (version_at state q k) t)) →
-    R (flat_map x reads) (row_of (named state reads numbers) t)
-row-related related x before state t [] [] new there h = related.none
-row-related related x before state t [] (k ∷ numbers) new there h = absurd there
-row-related related x before state t (s ∷ reads) [] new there h = absurd there
-row-related related x before state t (s ∷ reads) (k ∷ numbers) new there h = related.append _ _ _ _
-    (h s k (0, omega arith, refl) new.0 there.0)
-    (row-related related x before state t reads numbers new.1 there.1 (λ q i c. h q i (suc c.0, omega arith, c.2)))
-
--- the versions of another stream are as they were
-pub versions-elsewhere : (window : Window) (state : Versions) (step : Step) (s : ℕ) → s ≢ step.stream →
-    versions_of (after_step window state step) s ≡ versions_of state s
-versions-elsewhere window state step s n = elim (cases_Bool (is_idle window state step)) [
-  | inl e ↦ ap (λ x. versions_of x s) (after-idle window state step e)
-  | inr e ↦ ap (λ x. versions_of x s) (after-narrows window state step e) ∙ get_or-set_other state step.stream s _ [] n
-]
-
--- a sum over a list is at most one over places, if each element's part is
-sum_by_places : {X : Type 0} (f : X → ℕ) (g : ℕ → ℕ) (d : X) (a : ℕ) (xs : List X) →
-    ((i : ℕ) → i < length xs → f (slice_index_or xs i d) ≤ g (a + i)) → sum_by f xs ≤ sum_by g (range_with_len a (length xs))
-sum_by_places f g d a [] h = omega arith
-sum_by_places f g d a (x ∷ xs) h =
-    let here : f x ≤ g a = subst (λ i. f x ≤ g i) (omega arith) (h 0 (omega arith)) in
-    let rest : sum_by f xs ≤ sum_by g (range_with_len (a + 1) (length xs)) = sum_by_places f g d (a + 1) xs
-    (λ i l. subst (λ j. f (slice_index_or xs i d) ≤ g j) (omega arith) (h (suc i) (omega arith))) in
-    let whole : sum_by g (range_with_len a (length (x ∷ xs))) ≡ g a + sum_by g (range_with_len (a + 1) (length xs))
-    = sum_by-cons g a (range_with_len (a + 1) (length xs)) in
-    omega (arith, sum_by-cons f x xs)
-
--- any numbers are at least those of no versions
-newest_none : (reads numbers : List ℕ) → AreNewest [] reads numbers
-newest_none [] numbers = tt
-newest_none (s ∷ reads) [] = tt
-newest_none (s ∷ reads) (k ∷ numbers) = (omega arith, newest_none reads numbers)
+use Rattle.relaxation.proofs.Rows.{row-related, newest_none}
 
 module _ (window : Window) (is : IsOpen window) where
   -- the bands of a stream's run at a tick
@@ -74,6 +33,7 @@ module _ (window : Window) (is : IsOpen window) where
       (λ u. record { bands = is.bands.states u; inside = inside-itself (window.carried u) })
       (λ q f. record { bands = is.bands.fed q f; inside = inside-itself (window.feeds q f) }) t s l).bands
 
+  -- and so does the run's tube
   pub run-numbers : (s : ℕ) → s < length window.plant.streams → HasNumbers (run_tube window s)
   run-numbers s l = tube-numbers (λ t. run_at t s) window.ticks (λ t m. run-bands t s l)
 
@@ -95,14 +55,6 @@ module _ (window : Window) (is : IsOpen window) where
         (versions_open (run_tube window s) (window.opening s) (is.holds s l));
   }
 
-  -- the appended versions of a stream
-  appended_of : (state : Versions) → KeepsRun state → (i : ℕ) → i < length state → length (versions_of state i) - 1 ≤ width (window.opening (0 + i))
-  appended_of state kept i l =
-      let c : length (versions_of state i) + width (last_of state i) ≤ 1 + width (window.opening i) =
-      (kept.each i (subst (λ n. i < n) kept.counted l)).counted in
-      let e : width (window.opening (0 + i)) ≡ width (window.opening i) = ap (λ j. width (window.opening j)) (omega arith) in
-      omega arith
-
   module _ (state : Versions) (kept : KeepsRun state) where
     -- each version that is there holds the run
     pub version-holds : (s k : ℕ) → s < length window.plant.streams → k < length (versions_of state s) →
@@ -113,7 +65,7 @@ module _ (window : Window) (is : IsOpen window) where
     pub last-holds : (s : ℕ) → s < length window.plant.streams → IsWithin (run_tube window s) (last_of state s)
     last-holds s l = let some : 0 < length (versions_of state s) = (kept.each s l).some in version-holds s _ l (omega arith)
 
-    -- so the row from named versions of streams holds the inputs in the run
+    -- the row from named versions of streams holds the inputs in the run
     row-holds : (t : ℕ) (reads numbers : List ℕ) → t < window.ticks → ((q : ℕ) → Contains reads q → q < length window.plant.streams) →
         AreThere state reads numbers → AreBandsIn (flat_map (run_at t) reads) (row_of (named state reads numbers) t)
     row-holds t reads numbers m streams there = row-related (bands-kept window.plant.rounding) (run_at t) [] state t reads numbers
@@ -135,28 +87,32 @@ module _ (window : Window) (is : IsOpen window) where
           (λ q k. row-holds q (unit_at window.plant u).reads step.inputs (omega arith) (λ r c. is.ranked.reads u r v c) there)
           (λ i. row-holds t (unit_at window.plant u).reads step.inputs m (λ r c. is.ranked.reads u r v c) there)).inside)
 
+      -- whatever the stream comes from
       pub renewal-holds : IsWithin (run_tube window step.stream) (step_renewal window state step)
       renewal-holds = elim (source (origin_of window.plant step.stream)) [
         | from_feed f e ↦ absurd (subst (IsLegalFrom window state step.inputs) e legal.inputs)
         | from_port u p e ↦ subst (λ o. IsWithin (run_tube window step.stream) (origin_renewal window state step.stream step.inputs o)) (sym e) (port-holds u p e)
       ]
 
-      -- so does the meet, which has numbers
+      -- the meet of the last version with the renewal
       abbrev pub step_meet : Tube
       step_meet = meet (last_of state step.stream) (step_renewal window state step)
 
+      -- it holds the run too
       pub step-holds : IsWithin (run_tube window step.stream) step_meet
       step-holds = meet-holds (run_tube window step.stream) _ _ (last-holds step.stream legal.stream) renewal-holds
 
+      -- so it has numbers
       pub step-numbers : HasNumbers step_meet
       step-numbers = numbers-wider (run_tube window step.stream) step_meet (run-numbers step.stream legal.stream) step-holds
 
-      -- the meet of a step that is not idle is strictly narrower than the last version
+      -- that of a step that is not idle is another than the last version
       step_other : is_idle window state step ≡ false → step_meet ≡ last_of state step.stream → ⊥
       step_other e g = both_ways (is_idle window state step) e (within-test (last_of state step.stream) (step_renewal window state step)
           (subst (λ A. IsWithin A (step_renewal window state step)) g
           (meet-right (run_tube window step.stream) _ _ (last-holds step.stream legal.stream) renewal-holds)))
 
+      -- and strictly narrower
       pub step-narrower : is_idle window state step ≡ false → IsNarrower step_meet (last_of state step.stream)
       step-narrower e = record {
         within = meet-left (run_tube window step.stream) _ _ (last-holds step.stream legal.stream) renewal-holds;
@@ -167,12 +123,13 @@ module _ (window : Window) (is : IsOpen window) where
       pub step-idle : is_idle window state step ≡ true → step_meet ≡ last_of state step.stream
       step-idle e = meet-wider _ _ (within-yes _ _ e)
 
-      -- the versions after the step: one more of its stream, and the others as they were
+      -- after a step that is not idle its stream has one version more
       pub pushed-here : is_idle window state step ≡ false →
           versions_of (after_step window state step) step.stream ≡ versions_of state step.stream ++ step_meet ∷ []
       pushed-here e = ap (λ x. versions_of x step.stream) (after-narrows window state step e)
           ∙ get_or-set_same state step.stream _ [] (subst (λ n. step.stream < n) (sym kept.counted) legal.stream)
 
+      -- which are still versions of this stream
       pushed-versions : (s : ℕ) → s < length window.plant.streams → is_idle window state step ≡ false → s ≡ step.stream →
           AreVersions (run_tube window s) (window.opening s) (versions_of (after_step window state step) s)
       pushed-versions s l e g = subst (λ i. AreVersions (run_tube window i) (window.opening i) (versions_of (after_step window state step) i)) (sym g)
@@ -180,7 +137,7 @@ module _ (window : Window) (is : IsOpen window) where
           (versions_push (run_tube window step.stream) (window.opening step.stream) (versions_of state step.stream) step_meet
           (run-numbers step.stream legal.stream) (kept.each step.stream legal.stream) step-holds (step-narrower e)))
 
-      -- so the run is kept
+      -- so the run is kept by a step that is not idle
       narrowed-kept : is_idle window state step ≡ false → KeepsRun (after_step window state step)
       narrowed-kept e = record {
         counted = ap length (after-narrows window state step e) ∙ (length-set state step.stream _ ∙ kept.counted);
@@ -190,6 +147,7 @@ module _ (window : Window) (is : IsOpen window) where
         ];
       }
 
+      -- and by any
       pub step-kept : KeepsRun (after_step window state step)
       step-kept = elim (cases_Bool (is_idle window state step)) [
         | inl e ↦ subst KeepsRun (sym (after-idle window state step e)) kept
@@ -204,9 +162,3 @@ module _ (window : Window) (is : IsOpen window) where
   -- also from the opening tubes on
   pub reached-kept : (steps : List Step) → AreLegal window (opening_versions window) steps → KeepsRun (replay window (opening_versions window) steps)
   reached-kept steps legal = replay-kept (opening_versions window) steps opening-kept legal
-
-  -- there are at most as many appended versions as the opening tubes are wide in all
-  pub appended-at_most : (state : Versions) → KeepsRun state →
-      appended state ≤ sum_by (λ s. width (window.opening s)) (range_with_len 0 (length window.plant.streams))
-  appended-at_most state kept = subst (λ n. appended state ≤ sum_by (λ s. width (window.opening s)) (range_with_len 0 n)) kept.counted
-      (sum_by_places (λ versions. length versions - 1) (λ s. width (window.opening s)) [] 0 state (λ i l. appended_of state kept i l))

@@ -1,13 +1,14 @@
 -- Tubes tick by tick.
-use Rattle.std.proofs.Common.{◌≡◌, ℕ, zero, suc, ◌<◌, List, [], ◌∷◌, length, refl, sym, subst, subst₂, arith}
+use Rattle.std.proofs.Common.{◌≡◌, ℕ, zero, suc, ◌<◌, List, [], ◌∷◌, length, sym, subst, subst₂, arith, refl}
 use Rattle.std.proofs.lemmas.List.FromFn.{get_or-map-range_with_len, length-map-range_with_len}
 use Rattle.quant.specs.Interval.{Interval, AllBands, AllInside}
-use Rattle.relaxation.specs.Tube.{Tube, at, tube_of, IsWithin, HasNumbers}
+use Rattle.relaxation.specs.Tube.{Tube, IsWithin, HasNumbers, at, tube_of}
 
--- what a tube of bands has at a tick, and how long it is
+-- what a tube of bands has at a tick
 pub at-tube_of : (f : ℕ → List Interval) (n t : ℕ) → t < n → at (tube_of f n) t ≡ f t
 at-tube_of f n t h = get_or-map-range_with_len f 0 n t t [] h (omega arith)
 
+-- and how long it is
 pub length-tube_of : (f : ℕ → List Interval) (n : ℕ) → length (tube_of f n) ≡ n
 length-tube_of f n = length-map-range_with_len f 0 n
 
@@ -41,16 +42,18 @@ tube-within f g n h =
     within-each (tube_of f n) (tube_of g n) (omega arith) (λ t l.
     let m : t < n = omega arith in subst₂ AllInside (sym (at-tube_of f n t m)) (sym (at-tube_of g n t m)) (h t m))
 
--- a tube has numbers where it does at each tick
+-- a tube with numbers has them at each tick
 pub numbers-at : (A : Tube) (t : ℕ) → HasNumbers A → AllBands (at A t)
 numbers-at [] t h = tt
 numbers-at (A ∷ As) zero h = h.0
 numbers-at (A ∷ As) (suc t) h = numbers-at As t h.1
 
+-- this is all that it takes
 numbers-each : (A : Tube) → ((t : ℕ) → t < length A → AllBands (at A t)) → HasNumbers A
 numbers-each [] h = tt
 numbers-each (A ∷ As) h = (h zero (omega arith), numbers-each As (λ t l. h (suc t) (omega arith)))
 
+-- a tube of bands has numbers where they do
 pub tube-numbers : (f : ℕ → List Interval) (n : ℕ) → ((t : ℕ) → t < n → AllBands (f t)) → HasNumbers (tube_of f n)
 tube-numbers f n h =
     let p : length (tube_of f n) ≡ n = length-tube_of f n in

@@ -1,6 +1,7 @@
 -- What holds of the versions of all streams after legal steps.
 use Rattle.relaxation.specs.Core.{opening_versions, replay}
-use Rattle.relaxation.proofs.States.{reached-kept, version-holds, step-numbers, step-narrower, step-idle, appended-at_most}
+use Rattle.relaxation.proofs.States.{reached-kept, version-holds, step-numbers, step-narrower, step-idle}
+use Rattle.relaxation.proofs.Counts.{appended-at_most}
 use Rattle.relaxation.proofs.Quiet.{quiet-run}
 use Rattle.relaxation.proofs.core_laws.legal_steps_keep_the_run.Goals as goal
 

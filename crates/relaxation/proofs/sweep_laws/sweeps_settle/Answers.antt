@@ -3,7 +3,9 @@ use Rattle.std.proofs.Common.{length}
 use Rattle.relaxation.specs.Core.{opening_versions, replay}
 use Rattle.relaxation.specs.Sweep.{replay_sweeps}
 use Rattle.relaxation.proofs.States.{reached-kept}
-use Rattle.relaxation.proofs.Sweeps.{sweeps-kept, sweeps-below, sweeps-count, all-quiet}
+use Rattle.relaxation.proofs.Sweeps.{sweeps-kept, sweeps-below}
+use Rattle.relaxation.proofs.Counts.{sweeps-count}
+use Rattle.relaxation.proofs.Places.{all-quiet}
 use Rattle.relaxation.proofs.sweep_laws.sweeps_settle.Goals as goal
 
 pub returns-clause-places : goal.returns-clause-places
