@@ -1,5 +1,5 @@
 -- What a read does.
-use Rattle.std.specs.Prelude.{◌≡◌, ℕ, ◌+◌, ◌-◌, ◌<◌, ◌≤◌, ◌↔◌, min, List, [], length, take, drop, Option, Some, None, IfSome}
+use Rattle.std.specs.Prelude.{◌≡◌, ℕ, ◌<◌, ◌≤◌, List, [], length, take, drop, Option, Some, None, IfSome}
 
 -- n bytes were read: the first of the text that was left, where the source tells it
 pub record ReadsFront (text : List ℕ) (left : Option (List ℕ)) (before after : List ℕ) (n : ℕ) : Type 0 where

@@ -1,8 +1,8 @@
-use Rattle.std.proofs.Common.{◌≡◌, ℕ, ◌+◌, ◌<◌, ◌≤◌, List, [], ◌++◌, Bool, true, false, IsTrue, ◌↔◌, refl, vec_len, length-drop, take, drop, length, Option, Some, None, IfSome, sym, ap, subst, ◌∙◌, arith, rules}
+use Rattle.std.proofs.Common.{◌≡◌, ℕ, ◌+◌, ◌<◌, ◌≤◌, List, [], ◌++◌, false, refl, vec_len, length-drop, take, drop, length, Option, Some, None, IfSome, sym, ap, subst, ◌∙◌, arith}
 use Rattle.std.proofs.Math.Seq.{take-add}
 use Rattle.std.proofs.lemmas.List.{take_all, length-take, length-take-le, drop-drop, take-append-le}
 use Rattle.std.proofs.lemmas.Bool.{false≢true}
-use Rattle.flow_edge.specs.ReadText.{ReadText, ReadsUp}
+use Rattle.flow_edge.specs.ReadText.{ReadsUp}
 use Rattle.flow_edge.specs.Source.{Reads, ReadsFront}
 use Rattle.flow_edge.proofs.reading.read_up.Goals as goal
 
