@@ -1,7 +1,6 @@
 -- The cause of each status, from how the work ended and what was said of it.
-use Rattle.std.proofs.Common.{◌≡◌, ◌⊎◌, inl, inr, ◌∙◌, sym, refl, ap, subst, ℕ, List, [], Option, Some, None, IfSome, Result, Ok, Err}
+use Rattle.std.proofs.Common.{◌≡◌, ◌⊎◌, inl, inr, refl, subst, ℕ, List, [], Some, None, IfSome, Result, Ok, Err}
 use Rattle.flow_edge.specs.Faults.{Rose}
-use Rattle.flow_edge.specs.Sink.{Gives}
 use Rattle.flow_edge.specs.declared.status.Status.{Status}
 use Rattle.flow_edge.specs.declared.status.Status.TheVariants as status
 use Rattle.flow_file.specs.declared.one_tank.OneTank.{OneTank}
@@ -12,34 +11,31 @@ use Rattle.flow_top.specs.declared.fault.TopFault.{TopFault}
 use Rattle.flow_top.specs.declared.fault.TopFault.TheVariants.{Words, NotBuilt, ReadPlant, WriteOut}
 use Rattle.flow_top.specs.Words.{refused_word}
 use Rattle.flow_top.specs.TankPlant.{output_of}
-use Rattle.flow_top.specs.Uses.{SourceUse, SinkUse, IsUnwritten, WasGiven, Broke}
-use Rattle.flow_top.specs.Ended.{Ended, StoppedShort, Wrote, HoldsTank, HoldsNone}
+use Rattle.flow_top.specs.Uses.{SourceUse, SinkUse, IsUnwritten, WasGiven}
+use Rattle.flow_top.specs.Ended.{Ended, Wrote, HoldsNone}
 use Rattle.flow_top.specs.Stands.{Said, SaidLine, SaidMemory, SaidFault, fault_line, memory_line, status_of}
 use Rattle.flow_top.specs.Causes.{WritesOutput, AnswersOr}
 
 -- three ways in which a fault is answered: its line was given; a write failed; memory ran out
 data Answer (fault : TopFault) (err : SinkUse) (result : Status) : Type 0 where
   line : WasGiven err (fault_line fault) → result ≡ status_of fault → Answer fault err result
-  broke : (Rose err.before err.now ⊎ (fault ≡ WriteOut)) → result ≡ status.WriteFault → Answer fault err result
+  broke : Rose err.before err.now → result ≡ status.WriteFault → Answer fault err result
   memory : WasGiven err memory_line → result ≡ status.NoMemory → Answer fault err result
 
 answer_memory : (fault : TopFault) (err : SinkUse) (result : Status) → SaidMemory err result → Answer fault err result
 answer_memory fault err result (inl s) = memory s.0 s.1
-answer_memory fault err result (inr s) = broke (inl s.0.fault) s.1
+answer_memory fault err result (inr s) = broke s.0.fault s.1
 
 answer_line : (fault : TopFault) (err : SinkUse) (result : Status) → SaidLine err (fault_line fault) (status_of fault) result → Answer fault err result
 answer_line fault err result (inl s) = line s.0 s.1
-answer_line fault err result (inr s) = broke (inl s.0.fault) s.1
+answer_line fault err result (inr s) = broke s.0.fault s.1
 
 answer_of : (fault : TopFault) (err : SinkUse) (result : Status) → SaidFault fault err result → Answer fault err result
 answer_of (Words at) err result (inl s) = answer_line (Words at) err result s
 answer_of (Words at) err result (inr s) = answer_memory (Words at) err result s
-answer_of NotBuilt err result (inl s) = answer_line NotBuilt err result s
-answer_of NotBuilt err result (inr s) = answer_memory NotBuilt err result s
-answer_of ReadPlant err result (inl s) = answer_line ReadPlant err result s
-answer_of ReadPlant err result (inr s) = answer_memory ReadPlant err result s
-answer_of WriteOut err result (inl s) = answer_line WriteOut err result s
-answer_of WriteOut err result (inr s) = broke (inr refl) s.1
+answer_of NotBuilt err result s = answer_line NotBuilt err result s
+answer_of ReadPlant err result s = answer_line ReadPlant err result s
+answer_of WriteOut err result s = answer_line WriteOut err result s
 
 -- an answered fault is not these statuses
 not_done : (fault : TopFault) (err : SinkUse) (result : Status) → Answer fault err result → result ≡ status.Done → ⊥
@@ -89,12 +85,12 @@ read_named WriteOut err result (line g e) d = absurd (cc (e, d))
 read_named fault err result (broke r e) d = absurd (cc (e, d))
 read_named fault err result (memory g e) d = absurd (cc (e, d))
 
-write_named : (fault : TopFault) (err : SinkUse) (result : Status) → Answer fault err result → result ≡ status.WriteFault → Rose err.before err.now ⊎ (fault ≡ WriteOut)
+write_named : (fault : TopFault) (err : SinkUse) (result : Status) → Answer fault err result → result ≡ status.WriteFault → Rose err.before err.now ⊎ ((fault ≡ WriteOut) × WasGiven err (fault_line WriteOut))
 write_named (Words at) err result (line g e) d = absurd (cc (e, d))
 write_named NotBuilt err result (line g e) d = absurd (cc (e, d))
 write_named ReadPlant err result (line g e) d = absurd (cc (e, d))
-write_named WriteOut err result (line g e) d = inr refl
-write_named fault err result (broke r e) d = r
+write_named WriteOut err result (line g e) d = inr (refl, g)
+write_named fault err result (broke r e) d = inl r
 write_named fault err result (memory g e) d = absurd (cc (e, d))
 
 memory_named : (fault : TopFault) (err : SinkUse) (result : Status) → Answer fault err result → result ≡ status.NoMemory → WasGiven err memory_line
@@ -105,12 +101,11 @@ memory_named WriteOut err result (line g e) d = absurd (cc (e, d))
 memory_named fault err result (broke r e) d = absurd (cc (e, d))
 memory_named fault err result (memory g e) d = g
 
--- a fault that is none of the output is answered by its own status, or its line broke, or memory ran out
-own_answer : (fault : TopFault) (err : SinkUse) (result : Status) → Answer fault err result → (fault ≡ WriteOut → ⊥) → AnswersOr (status_of fault) err.before err.now result
-own_answer fault err result (line g e) n = inl e
-own_answer fault err result (broke (inl r) e) n = inr (inl (e, r))
-own_answer fault err result (broke (inr w) e) n = absurd (n w)
-own_answer fault err result (memory g e) n = inr (inr e)
+-- a fault is answered by its own status, or its line broke, or memory ran out
+own_answer : (fault : TopFault) (err : SinkUse) (result : Status) → Answer fault err result → AnswersOr (status_of fault) err.before err.now result
+own_answer fault err result (line g e) = inl e
+own_answer fault err result (broke r e) = inr (inl (e, r))
+own_answer fault err result (memory g e) = inr (inr e)
 
 -- the statuses of later commands never come
 pub never-wide : (err : SinkUse) (result : Status) (ending : Result (Unit {0}) End) → Said ending err result → (result ≡ status.Wide) ⊎ (result ≡ status.No) → ⊥
@@ -146,7 +141,7 @@ module _ (words : List (List ℕ)) (plant : SourceUse) (out err : SinkUse) (resu
       AnswersOr status.Words err.before err.now result
   words-only at (Ok done) e s d = absurd (cc (e.words, d))
   words-only at (Err NoMemory) e s d = absurd (cc (e.words, d))
-  words-only at (Err (Fault (Words k))) e s d = own_answer (Words k) err result (answer_of (Words k) err result s) (λ w. cc)
+  words-only at (Err (Fault (Words k))) e s d = own_answer (Words k) err result (answer_of (Words k) err result s)
   words-only at (Err (Fault NotBuilt)) e s d = absurd (cc (e.words, d))
   words-only at (Err (Fault ReadPlant)) e s d = absurd (cc (e.words, d))
   words-only at (Err (Fault WriteOut)) e s d = absurd (cc (e.words, d))
@@ -168,7 +163,7 @@ module _ (words : List (List ℕ)) (plant : SourceUse) (out err : SinkUse) (resu
   refused-only text (Ok done) e s w t n = absurd (cc (subst (λ o. IfSome o (λ bytes. one_tank_in bytes ≡ Some e.one)) t e.plant.text, n))
   refused-only text (Err NoMemory) e s w t n = inl (elim s [ inl m ↦ inr (inr m.1) | inr m ↦ inr (inl (m.1, m.0.fault)) ])
   refused-only text (Err (Fault (Words k))) e s w t n = absurd (cc (e.words, w))
-  refused-only text (Err (Fault NotBuilt)) e s w t n = inl (own_answer NotBuilt err result (answer_of NotBuilt err result s) (λ w. cc))
+  refused-only text (Err (Fault NotBuilt)) e s w t n = inl (own_answer NotBuilt err result (answer_of NotBuilt err result s))
   refused-only text (Err (Fault ReadPlant)) e s w t n = inr e.fault
   refused-only text (Err (Fault WriteOut)) e s w t n = absurd (cc (subst (λ o. IfSome o (λ bytes. one_tank_in bytes ≡ Some e.one)) t e.plant.text, n))
 
@@ -183,17 +178,17 @@ module _ (words : List (List ℕ)) (plant : SourceUse) (out err : SinkUse) (resu
       let e : Ended (Err (Fault ReadPlant)) words plant out = subst (λ f. Ended (Err (Fault f)) words plant out) n.0 e in
       (e.fault, n.1, e.output)
 
-  -- write fault: a sink counted one
+  -- write fault: the output counted one, and its line was given; or the errors counted one
   pub write-failed : (ending : Result (Unit {0}) End) → Ended ending words plant out → Said ending err result → result ≡ status.WriteFault →
-      Rose out.before out.now ⊎ Rose err.before err.now
+      (Rose out.before out.now × WasGiven err (fault_line WriteOut)) ⊎ Rose err.before err.now
   write-failed (Ok done) e s d = absurd (cc (s.1, d))
   write-failed (Err NoMemory) e (inl s) d = absurd (cc (s.1, d))
   write-failed (Err NoMemory) e (inr s) d = inr s.0.fault
   write-failed (Err (Fault fault)) e s d = elim (write_named fault err result (answer_of fault err result s) d) [
     | inl r ↦ inr r
     | inr w ↦
-        let e : Ended (Err (Fault WriteOut)) words plant out = subst (λ f. Ended (Err (Fault f)) words plant out) w e in
-        inl e.output.fault
+        let e : Ended (Err (Fault WriteOut)) words plant out = subst (λ f. Ended (Err (Fault f)) words plant out) w.0 e in
+        inl (e.output.fault, w.1)
   ]
 
   -- want of memory: its line was given

@@ -1,8 +1,7 @@
 -- From what one read or write did to what a whole text did.
-use Rattle.std.proofs.Common.{◌≡◌, ◌+◌, ◌-◌, ◌^◌, ◌<◌, ◌≤◌, ◌↔◌, min, ℕ, Bool, true, false, IsTrue, List, [], ◌++◌, length, take, drop, Option, Some, None, IfSome, nat_le, refl, sym, ap, subst, ◌∙◌, append_assoc, if◌then◌else◌, arith, rules}
+use Rattle.std.proofs.Common.{◌≡◌, ◌+◌, ◌<◌, ◌≤◌, ℕ, true, false, List, [], ◌++◌, length, drop, Option, Some, None, IfSome, sym, ap, subst, ◌∙◌, append_assoc, if◌then◌else◌, arith}
 use Rattle.std.proofs.lemmas.List.{take_all}
 use Rattle.std.proofs.lemmas.Bool.{false≢true, lt-leb}
-use Rattle.std.proofs.lemmas.Bool.Decides.{nat_tests}
 use Rattle.flow_edge.specs.Faults.{Rose}
 use Rattle.flow_edge.specs.ReadText.{ReadText, ReadsUp}
 use Rattle.flow_edge.specs.Sink.{Gives, GivesFront}
@@ -10,8 +9,6 @@ use Rattle.flow_file.specs.declared.one_tank.OneTank.{OneTank}
 use Rattle.flow_file.specs.OneTank.{one_tank_in, one_tank_of, most_bytes}
 use Rattle.flow_file.specs.Read.{◌>>=◌}
 use Rattle.flow_file.specs.Tree.{tree_of}
-use Rattle.flow_top.specs.Uses.{SourceUse, SinkUse, Broke}
-use Rattle.flow_top.specs.Ended.{HoldsTank, HoldsNone}
 
 not_more : (n m : ℕ) → ¬ (m < n) → n ≤ m
 not_more n m h = omega arith

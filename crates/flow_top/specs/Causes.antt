@@ -1,5 +1,5 @@
 -- The cause of each status.
-use Rattle.std.specs.Prelude.{◌≡◌, ◌⊎◌, ℕ, List, [], Option, Some, None, IfSome}
+use Rattle.std.specs.Prelude.{◌≡◌, ◌⊎◌, ℕ, List, [], Option, Some, IfSome}
 use Rattle.flow_edge.specs.Faults.{Rose}
 use Rattle.flow_edge.specs.Sink.{Gives}
 use Rattle.flow_edge.specs.declared.status.Status.{Status}

@@ -1,5 +1,5 @@
 -- How the work of `run` ends, and what then stands in the plant source and the output.
-use Rattle.std.specs.Prelude.{◌≡◌, ◌≤◌, ◌⊎◌, ℕ, ◌++◌, List, [], Option, Some, None, IfSome, Result, Ok, Err}
+use Rattle.std.specs.Prelude.{◌≡◌, ◌⊎◌, ℕ, List, [], Some, None, IfSome, Result, Ok, Err}
 use Rattle.flow_edge.specs.Faults.{Rose}
 use Rattle.flow_file.specs.declared.one_tank.OneTank.{OneTank}
 use Rattle.flow_file.specs.OneTank.{one_tank_in}

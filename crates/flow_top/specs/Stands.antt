@@ -1,5 +1,5 @@
 -- What stands after the call, for every status.
-use Rattle.std.specs.Prelude.{◌≡◌, ◌⊎◌, ℕ, ◌++◌, List, [], Result, Ok, Err, codes, decimal}
+use Rattle.std.specs.Prelude.{◌≡◌, ◌⊎◌, ℕ, ◌++◌, List, Result, Ok, Err, codes, decimal}
 use Rattle.flow_edge.specs.declared.status.Status.{Status}
 use Rattle.flow_edge.specs.declared.status.Status.TheVariants as status
 use Rattle.flow_top.specs.declared.fault.End.{End}
@@ -34,14 +34,10 @@ SaidLine err line own result = (WasGiven err line × (result ≡ own)) ⊎ (Brok
 abbrev pub SaidMemory : SinkUse → Status → Type 0
 SaidMemory err result = SaidLine err memory_line status.NoMemory result
 
--- where the line itself finds no memory, want of memory is said in its place; after a write fault nothing is
-abbrev pub SaidNoLine : TopFault → SinkUse → Status → Type 0
-SaidNoLine WriteOut err result = IsUnwritten err × (result ≡ status.WriteFault)
-SaidNoLine fault err result = SaidMemory err result
-
--- what was said of a fault
+-- what was said of a fault: its line; of refused words, whose line takes memory, also the line of want of memory
 abbrev pub SaidFault : TopFault → SinkUse → Status → Type 0
-SaidFault fault err result = SaidLine err (fault_line fault) (status_of fault) result ⊎ SaidNoLine fault err result
+SaidFault (Words at) err result = SaidLine err (fault_line (Words at)) status.Words result ⊎ SaidMemory err result
+SaidFault fault err result = SaidLine err (fault_line fault) (status_of fault) result
 
 -- what was said of how the work ended
 abbrev pub Said : Result (Unit {0}) End → SinkUse → Status → Type 0

@@ -1,5 +1,5 @@
 -- The plant of a one-tank text, its interval run, and the output that is written for it.
-use Rattle.std.specs.Prelude.{◌≡◌, ℕ, ◌++◌, Bool, true, false, List, [], ◌∷◌, codes, slice_index_or}
+use Rattle.std.specs.Prelude.{ℕ, ◌++◌, true, false, List, [], ◌∷◌, codes, slice_index_or}
 use Rattle.quant.specs.Interval.{Interval}
 use Rattle.quant.specs.Rounding.{Floor}
 use Rattle.flowsheet.specs.Plant.{Plant, PlantUnit, feed, port}

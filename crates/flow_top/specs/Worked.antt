@@ -1,5 +1,5 @@
 -- A worked tank: 1000 mL that take in 10 to 12 mL a tick and lose a hundredth of themselves.
-use Rattle.std.specs.Prelude.{ℤ, pos, List, codes}
+use Rattle.std.specs.Prelude.{ℤ, pos, codes}
 use Rattle.quant.specs.Interval.{Interval, point}
 use Rattle.flow_file.specs.declared.one_tank.OneTank.{OneTank}
 

@@ -1,8 +1,8 @@
 ghost use Rattle.std.specs.Prelude.{◌≡◌, IfOk};
-ghost use Rattle.flow_top.specs.Stands.{fault_line, memory_line, status_of};
+ghost use Rattle.flow_top.specs.Stands.{fault_line, memory_line};
 ghost use Rattle.flow_top.specs.declared.fault.End.TheVariants.{NoMemory};
+ghost use Rattle.flow_top.specs.declared.fault.TopFault.TheVariants.{Words};
 
-use flow_edge::Status;
 use std::alloc::{AllocError, Global};
 
 /// What goes wrong, one for each error line but that of want of memory.
@@ -41,28 +41,10 @@ pub fn memory_line() -> &'static [u8]
     b"flowrelax: want of memory\n"
 }
 
-/// The error line of a fault.
+/// The error line of refused words.
 #[tactic(auto, unfolding(crate::specs::Stands::fault_line))]
-pub fn fault_line(alloc: Global, fault: TopFault) -> Result<Vec<u8>, AllocError>
-    ensures { IfOk result (λ line. line.items ≡ fault_line fault) }
+pub fn words_line(alloc: Global, at: u32) -> Result<Vec<u8>, AllocError>
+    ensures { IfOk result (λ line. line.items ≡ fault_line (Words at)) }
 {
-    let text = match fault {
-        TopFault::Words { at } => format!(in alloc; "flowrelax: words refused at {at}\n")?,
-        TopFault::NotBuilt => String::from_str(alloc, "flowrelax: P0 not built yet text\n")?,
-        TopFault::ReadPlant => String::from_str(alloc, "flowrelax: read fault on plant\n")?,
-        TopFault::WriteOut => String::from_str(alloc, "flowrelax: write fault on out\n")?,
-    };
-    Ok(text.into_bytes())
-}
-
-/// The status of a fault whose line was written.
-pub fn status_of(fault: TopFault) -> Status
-    ensures { result ≡ status_of fault }
-{
-    match fault {
-        TopFault::Words { .. } => Status::Words,
-        TopFault::NotBuilt => Status::Refused,
-        TopFault::ReadPlant => Status::ReadFault,
-        TopFault::WriteOut => Status::WriteFault,
-    }
+    Ok(format!(in alloc; "flowrelax: words refused at {at}\n")?.into_bytes())
 }

@@ -6,10 +6,10 @@ ghost use Rattle.flow_file.specs.OneTank.{IsReady, one_tank_in};
 ghost use Rattle.flow_top.specs.Ended.{Ended, PlantEnded, OutputEnded};
 ghost use Rattle.flow_top.specs.Words.{refused_word};
 ghost use Rattle.flow_top.specs.Causes.{WritesOutput, AnswersOr};
-ghost use Rattle.flow_top.specs.declared.fault.TopFault.TheVariants.{Words, NotBuilt, ReadPlant};
-ghost use Rattle.flow_top.specs.Stands.{Stands, Said, SaidMemory, SaidFault, fault_line, memory_line};
+ghost use Rattle.flow_top.specs.declared.fault.TopFault.TheVariants.{Words, NotBuilt, ReadPlant, WriteOut};
+ghost use Rattle.flow_top.specs.Stands.{Stands, Said, SaidLine, SaidFault, fault_line, memory_line};
 
-use crate::fault::{End, TopFault, fault_line, memory_line, status_of};
+use crate::fault::{End, TopFault, memory_line, words_line};
 use crate::tank_rows::tank_rows;
 use crate::words::refused_word;
 use flow_edge::{Gate, ReadEnd, Sink, Source, Status, Word, read_up};
@@ -74,12 +74,13 @@ where
     ensures refused_only { (text : List ℕ) → refused_word words.now ≡ None → S.left plant.old ≡ Some text → one_tank_in text ≡ None →
         AnswersOr Status.Refused (F.faults err.old) (F.faults err.new) result ⊎ Rose (S.faults plant.old) (S.faults plant.new) }
 
-    // Read fault and write fault: only where a count of faults rose.
+    // Read fault and write fault: only where a count of faults rose, and with their line but where the errors failed.
     ensures read_fault { result ≡ Status.ReadFault → Rose (S.faults plant.old) (S.faults plant.new) }
     ensures read_fault_line { result ≡ Status.ReadFault → Gives (F.given err.old) (F.given err.new) (fault_line ReadPlant) }
     ensures read_fault_silent { result ≡ Status.ReadFault → O.given out.new ≡ O.given out.old }
     ensures write_fault { result ≡ Status.WriteFault →
-        Rose (O.faults out.old) (O.faults out.new) ⊎ Rose (F.faults err.old) (F.faults err.new) }
+        (Rose (O.faults out.old) (O.faults out.new) × Gives (F.given err.old) (F.given err.new) (fault_line WriteOut)) ⊎
+        Rose (F.faults err.old) (F.faults err.new) }
 
     // Want of memory comes with its line; the statuses of later commands never come.
     ensures no_memory { result ≡ Status.NoMemory → Gives (F.given err.old) (F.given err.new) memory_line }
@@ -151,31 +152,36 @@ fn say<F: Sink>(alloc: Global, ended: &Result<(), End>, err: &mut F) -> Status
 {
     match ended {
         Ok(()) => Status::Done,
-        Err(End::NoMemory) => say_memory(err),
+        Err(End::NoMemory) => say_line(memory_line(), Status::NoMemory, err),
         Err(End::Fault(fault)) => say_fault(alloc, *fault, err),
     }
 }
 
-fn say_memory<F: Sink>(err: &mut F) -> Status
-    ensures { SaidMemory (record { had = F.given err.old; has = F.given err.new; before = F.faults err.old; now = F.faults err.new }) result }
-{
-    match err.write(memory_line()) {
-        Ok(()) => Status::NoMemory,
-        Err(_) => Status::WriteFault,
-    }
-}
-
+#[tactic(auto, unfolding(crate::specs::Stands::fault_line))]
 fn say_fault<F: Sink>(alloc: Global, fault: TopFault, err: &mut F) -> Status
     ensures { SaidFault fault (record { had = F.given err.old; has = F.given err.new; before = F.faults err.old; now = F.faults err.new }) result }
 {
-    let Ok(line) = fault_line(alloc, fault) else {
-        return match fault {
-            TopFault::WriteOut => Status::WriteFault,
-            _ => say_memory(err),
-        };
-    };
-    match err.write(&line) {
-        Ok(()) => status_of(fault),
+    match fault {
+        TopFault::Words { at } => match words_line(alloc, at) {
+            Ok(line) => say_line(&line, Status::Words, err),
+            Err(AllocError) => say_line(memory_line(), Status::NoMemory, err),
+        },
+        TopFault::NotBuilt => say_line(b"flowrelax: P0 not built yet text\n", Status::Refused, err),
+        TopFault::ReadPlant => say_line(
+            b"flowrelax: read fault on plant\n",
+            Status::ReadFault,
+            err,
+        ),
+        TopFault::WriteOut => say_line(b"flowrelax: write fault on out\n", Status::WriteFault, err),
+    }
+}
+
+/// Says a line, and answers the status that goes with it.
+fn say_line<F: Sink>(line: &[u8], own: Status, err: &mut F) -> Status
+    ensures { SaidLine (record { had = F.given err.old; has = F.given err.new; before = F.faults err.old; now = F.faults err.new }) line.now own result }
+{
+    match err.write(line) {
+        Ok(()) => own,
         Err(_) => Status::WriteFault,
     }
 }

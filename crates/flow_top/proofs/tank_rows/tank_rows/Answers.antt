@@ -1,4 +1,4 @@
-use Rattle.std.proofs.Common.{◌≡◌, ◌∙◌, sym, ap, arith}
+use Rattle.std.proofs.Common.{◌≡◌, ◌∙◌, ap, arith}
 use Rattle.report.specs.Output.{rows_of}
 use Rattle.flow_top.specs.TankPlant.{labels_of, bands_of, all_rows}
 use Rattle.flow_top.proofs.TankRun.{states-more, rows-more}

@@ -1,4 +1,3 @@
-use Rattle.std.proofs.Common.{◌≡◌, None, IfSome, refl}
 use Rattle.flow_top.proofs.Causes.{done-wrote, wrote-output, words-refused, words-only, refused-none, refused-only, read-failed, write-failed, memory-said, never-wide, whole-done}
 use Rattle.flow_top.proofs.top.flow_top.Goals as goal
 

@@ -1,4 +1,4 @@
-use Rattle.std.proofs.Common.{◌≡◌, ◌∙◌, sym, ap, List, ℕ, None, Bool, true, false}
+use Rattle.std.proofs.Common.{◌≡◌, ◌∙◌, sym, ap, None, false}
 use Rattle.flow_file.specs.OneTank.{one_tank_in}
 use Rattle.flow_edge.specs.ReadText.{ReadText}
 use Rattle.flow_top.proofs.Endings.{more-none, whole-reads, whole-left}

@@ -1,6 +1,4 @@
-use Rattle.std.proofs.Common.{◌≡◌, List, ℕ, sym, ap, subst}
 use Rattle.report.specs.Output.{header}
-use Rattle.flow_edge.specs.Sink.{Gives, GivesFront}
 use Rattle.flow_top.specs.TankPlant.{all_rows}
 use Rattle.flow_top.proofs.Endings.{front-longer, front-after, rose-later}
 use Rattle.flow_top.proofs.top.write_output.Goals as goal
