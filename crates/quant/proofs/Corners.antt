@@ -3,10 +3,11 @@ use Rattle.std.proofs.Common.{◌≡◌, ℤ, pos, ◌≤ℤ◌, ◌<ℤ◌, Fit
 use Rattle.std.proofs.lemmas.Int.{ints, clamps, to_z-of_z, by_lt_z}
 use Rattle.std.specs.Int.{w64}
 use Rattle.quant.specs.Interval.{Interval, Holds, IsBand, IsInside, join, point}
-use Rattle.quant.specs.Hull.{IsHull, IsValue2, IsValue4}
+use Rattle.quant.specs.Hull.{IsHull, IsValue1, IsValue2, IsValue4}
 use Rattle.quant.specs.Rounding.{Rounding}
-use Rattle.quant.specs.Operation.{share, keep, blend}
-use Rattle.quant.proofs.Operations.{share-up, share-down, keep-is, blend-old, blend-added, blend-part_up, blend-part_down, blend-volume_up, blend-volume_down, blend-between}
+use Rattle.quant.specs.Operation.{share, keep, gain, blend, mix}
+use Rattle.quant.proofs.Operations.{share-up, share-down, gain-up, gain-down, keep-is, blend-part_up, blend-part_down, blend-volume_up, blend-volume_down}
+use Rattle.quant.proofs.Mixing.{mix-first_flow_up, mix-first_flow_down, mix-second_flow_up, mix-second_flow_down}
 
 -- the function is least over the interval at this number of it, or greatest
 pub record IsLeastAt (f : ℤ → ℤ) (G : Interval) (x : ℤ) : Type 0 where
@@ -72,12 +73,13 @@ picked-upper a x u h k e p = e (omega (arith, ints)) ∙ to_z-of_z w64 u k
 pub picked-lower : (a x u : ℤ) → FitsSigned w64 a → FitsSigned w64 u → (to_z w64 (of_z w64 a) <ℤ pos 0 → x ≡ to_z w64 (of_z w64 u)) → a <ℤ pos 0 → x ≡ u
 picked-lower a x u h k e p = e (omega (arith, ints)) ∙ to_z-of_z w64 u k
 
--- a blend rises with both contents, so its hull lies between these corners
-pub blend-corners : (r : Rounding) (C D M V : Interval) (p q : ℤ) → IsBand C → IsBand D →
-    IsValue2 (blend r C.lo D.lo) M V p → ((m v : ℤ) → Holds M m → Holds V v → p ≤ℤ blend r C.lo D.lo m v) →
-    IsValue2 (blend r C.hi D.hi) M V q → ((m v : ℤ) → Holds M m → Holds V v → blend r C.hi D.hi m v ≤ℤ q) →
-    IsHull (IsValue4 (blend r) C D M V) (record { lo = p; hi = q })
-blend-corners r C D M V p q c d low least high greatest =
+-- what rises with its first two arguments has its hull between these corners
+pub corners4 : (f : ℤ → ℤ → ℤ → ℤ → ℤ) → ((a b d m v : ℤ) → a ≤ℤ b → f a d m v ≤ℤ f b d m v) → ((c a b m v : ℤ) → a ≤ℤ b → f c a m v ≤ℤ f c b m v) →
+    (C D M V : Interval) (p q : ℤ) → IsBand C → IsBand D →
+    IsValue2 (f C.lo D.lo) M V p → ((m v : ℤ) → Holds M m → Holds V v → p ≤ℤ f C.lo D.lo m v) →
+    IsValue2 (f C.hi D.hi) M V q → ((m v : ℤ) → Holds M m → Holds V v → f C.hi D.hi m v ≤ℤ q) →
+    IsHull (IsValue4 f C D M V) (record { lo = p; hi = q })
+corners4 f first second C D M V p q c d low least high greatest =
     record {
       holds = λ z v.
           let a = v.0 in
@@ -85,24 +87,27 @@ blend-corners r C D M V p q c d low least high greatest =
           let m = v.2.2.0 in
           let w = v.2.2.2.0 in
           record {
-            above = omega (arith, ints, least m w v.2.2.1 v.2.2.2.1, blend-old r C.lo a D.lo m w v.1.above, blend-added r a D.lo b m w v.2.1.above, v.2.2.2.2);
-            below = omega (arith, ints, greatest m w v.2.2.1 v.2.2.2.1, blend-old r a C.hi D.hi m w v.1.below, blend-added r a b D.hi m w v.2.1.below, v.2.2.2.2);
+            above = omega (arith, ints, least m w v.2.2.1 v.2.2.2.1, first C.lo a D.lo m w v.1.above, second a D.lo b m w v.2.1.above, v.2.2.2.2);
+            below = omega (arith, ints, greatest m w v.2.2.1 v.2.2.2.1, first a C.hi D.hi m w v.1.below, second a b D.hi m w v.2.1.below, v.2.2.2.2);
           };
       low = (C.lo, low-holds C C.lo c refl, (D.lo, low-holds D D.lo d refl, low));
       high = (C.hi, high-holds C C.hi c refl, (D.hi, high-holds D D.hi d refl, high));
     }
 
-value-inside : (r : Rounding) (C D M V : Interval) (z : ℤ) → IsValue4 (blend r) C D M V z → Holds (join C D) z
-value-inside r C D M V z v =
+-- what lies between its first two arguments has its hull between their bands
+value-inside : (f : ℤ → ℤ → ℤ → ℤ → ℤ) → ((c d m v : ℤ) → Holds (join (point c) (point d)) (f c d m v)) → (C D M V : Interval) (z : ℤ) →
+    IsValue4 f C D M V z → Holds (join C D) z
+value-inside f between C D M V z v =
     let c = v.1 in
     let d = v.2.1 in
-    let h = blend-between r v.0 v.2.0 v.2.2.0 v.2.2.2.0 in
+    let h = between v.0 v.2.0 v.2.2.0 v.2.2.2.0 in
     let e = v.2.2.2.2 in
     record { above = omega (arith, ints, clamps); below = omega (arith, ints, clamps) }
 
-pub blend-inside : (r : Rounding) (C D M V R : Interval) → IsHull (IsValue4 (blend r) C D M V) R → IsInside R (join C D)
-blend-inside r C D M V R h =
-    record { above = (value-inside r C D M V R.lo h.low).above; below = (value-inside r C D M V R.hi h.high).below }
+pub hull-inside_contents : (f : ℤ → ℤ → ℤ → ℤ → ℤ) → ((c d m v : ℤ) → Holds (join (point c) (point d)) (f c d m v)) → (C D M V R : Interval) →
+    IsHull (IsValue4 f C D M V) R → IsInside R (join C D)
+hull-inside_contents f between C D M V R h =
+    record { above = (value-inside f between C D M V R.lo h.low).above; below = (value-inside f between C D M V R.hi h.high).below }
 
 -- what lies between 0 and its first argument has its hull there
 value-between : (f : ℤ → ℤ → ℤ) → ((a g : ℤ) → Holds (join (point (pos 0)) (point a)) (f a g)) → (A G : Interval) (z : ℤ) → IsValue2 f A G z → Holds (join (point (pos 0)) A) z
@@ -127,6 +132,41 @@ greatest-up r c d M V p l e x y h k = omega (arith, ints, blend-part_up r c d x 
 
 pub greatest-down : (r : Rounding) (c d : ℤ) (M V : Interval) (p : ℤ) → d ≤ℤ c → p ≡ blend r c d M.lo V.hi → (x y : ℤ) → Holds M x → Holds V y → blend r c d x y ≤ℤ p
 greatest-down r c d M V p l e x y h k = omega (arith, ints, blend-part_down r c d M.lo x V.hi l h.above, blend-volume_up r c d x y V.hi l k.below)
+
+-- and a mix, by which flow leads to the lesser
+pub mix_least-up : (r : Rounding) (c d : ℤ) (M N : Interval) (p : ℤ) → c ≤ℤ d → p ≡ mix r c d M.hi N.lo → (x y : ℤ) → Holds M x → Holds N y → p ≤ℤ mix r c d x y
+mix_least-up r c d M N p l e x y h k = omega (arith, ints, mix-first_flow_down r c d x M.hi N.lo l h.below, mix-second_flow_up r c d x N.lo y l k.above)
+
+pub mix_least-down : (r : Rounding) (c d : ℤ) (M N : Interval) (p : ℤ) → d ≤ℤ c → p ≡ mix r c d M.lo N.hi → (x y : ℤ) → Holds M x → Holds N y → p ≤ℤ mix r c d x y
+mix_least-down r c d M N p l e x y h k = omega (arith, ints, mix-first_flow_up r c d M.lo x N.hi l h.above, mix-second_flow_down r c d x y N.hi l k.below)
+
+pub mix_greatest-up : (r : Rounding) (c d : ℤ) (M N : Interval) (p : ℤ) → c ≤ℤ d → p ≡ mix r c d M.lo N.hi → (x y : ℤ) → Holds M x → Holds N y → mix r c d x y ≤ℤ p
+mix_greatest-up r c d M N p l e x y h k = omega (arith, ints, mix-first_flow_down r c d M.lo x N.hi l h.above, mix-second_flow_up r c d x y N.hi l k.below)
+
+pub mix_greatest-down : (r : Rounding) (c d : ℤ) (M N : Interval) (p : ℤ) → d ≤ℤ c → p ≡ mix r c d M.hi N.lo → (x y : ℤ) → Holds M x → Holds N y → mix r c d x y ≤ℤ p
+mix_greatest-down r c d M N p l e x y h k = omega (arith, ints, mix-first_flow_up r c d x M.hi N.lo l h.below, mix-second_flow_down r c d x N.lo y l k.above)
+
+-- a gain is least and greatest at the ends, by the sign of its ppm
+pub gain-corners : (r : Rounding) (k : ℤ) (A : Interval) (x y p q : ℤ) → IsBand A → (pos 0 ≤ℤ k → x ≡ A.lo) → (k <ℤ pos 0 → x ≡ A.hi) →
+    (pos 0 ≤ℤ k → y ≡ A.hi) → (k <ℤ pos 0 → y ≡ A.lo) → p ≡ gain r k x → q ≡ gain r k y → IsHull (IsValue1 (gain r k) A) (record { lo = p; hi = q })
+gain-corners r k A x y p q b i j m n e f =
+    by_lt_z k (pos 0)
+    (λ l. record {
+      holds = λ z v. record {
+        above = omega (arith, ints, ap (gain r k) (j l), gain-down r k v.0 A.hi (omega (arith, ints)) v.1.below, v.2);
+        below = omega (arith, ints, ap (gain r k) (n l), gain-down r k A.lo v.0 (omega (arith, ints)) v.1.above, v.2);
+      };
+      low = (x, high-holds A x b (j l), sym e);
+      high = (y, low-holds A y b (n l), sym f);
+    })
+    (λ l. record {
+      holds = λ z v. record {
+        above = omega (arith, ints, ap (gain r k) (i l), gain-up r k A.lo v.0 l v.1.above, v.2);
+        below = omega (arith, ints, ap (gain r k) (m l), gain-up r k v.0 A.hi l v.1.below, v.2);
+      };
+      low = (x, low-holds A x b (i l), sym e);
+      high = (y, high-holds A y b (m l), sym f);
+    })
 
 pub called4 : (f : ℤ → ℤ → ℤ → ℤ → ℤ) (a b m v r : ℤ) → FitsSigned w64 a → FitsSigned w64 b → FitsSigned w64 m → FitsSigned w64 v → FitsSigned w64 r →
     r ≡ f (to_z w64 (of_z w64 a)) (to_z w64 (of_z w64 b)) (to_z w64 (of_z w64 m)) (to_z w64 (of_z w64 v)) → to_z w64 (of_z w64 r) ≡ f a b m v

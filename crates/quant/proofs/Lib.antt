@@ -4,5 +4,6 @@ pub mod Casts
 pub mod Corners
 pub mod Division
 pub mod Hulls
+pub mod Mixing
 pub mod Operations
 pub mod Terms

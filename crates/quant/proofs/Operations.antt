@@ -1,22 +1,23 @@
 -- Each operation is monotone in each argument.
-use Rattle.std.proofs.Common.{◌≡◌, ℕ, ℤ, pos, ◌+ℤ◌, ◌-ℤ◌, ◌*ℤ◌, ◌≤ℤ◌, arith, refl, sym, ap, ◌∙◌}
+use Rattle.std.proofs.Common.{◌≡◌, ℕ, ℤ, pos, ◌+ℤ◌, ◌-ℤ◌, ◌*ℤ◌, neg_ℤ, ◌≤ℤ◌, arith, refl, sym, ap, ◌∙◌}
 use Rattle.std.proofs.lemmas.Int.{ints, clamps, by_lt_z}
 use Rattle.std.proofs.Math.IntN.{*ℤ_comm}
 use Rattle.quant.specs.Interval.{Interval, Holds, join, point, around}
 use Rattle.quant.specs.Hull.{IsMonotone1, IsMonotone2, IsMonotone4}
 use Rattle.quant.specs.Rounding.{Rounding, quotient, divisor}
-use Rattle.quant.specs.Operation.{million, part, share, keep, blend, clamp}
+use Rattle.quant.specs.Operation.{million, part, share, keep, gain, blend, clamp}
+use Rattle.quant.proofs.Casts.{product-around}
 use Rattle.quant.proofs.Division.{add-times, times-times, sub-times, times-le, le-times, ge-times, one-le_divisor, divisor-same, quotient-rises, quotient-shifts, quotient-exact, quotient-le_whole, quotient-exact_whole}
 
 -- what rises, and what falls, is monotone
-rises : (f : ℤ → ℤ) → ((a b : ℤ) → a ≤ℤ b → f a ≤ℤ f b) → IsMonotone1 f
+pub rises : (f : ℤ → ℤ) → ((a b : ℤ) → a ≤ℤ b → f a ≤ℤ f b) → IsMonotone1 f
 rises f h a b c p q = let x = h a b p in let y = h b c q in record { above = omega (arith, ints, clamps); below = omega (arith, ints, clamps) }
 
-falls : (f : ℤ → ℤ) → ((a b : ℤ) → a ≤ℤ b → f b ≤ℤ f a) → IsMonotone1 f
+pub falls : (f : ℤ → ℤ) → ((a b : ℤ) → a ≤ℤ b → f b ≤ℤ f a) → IsMonotone1 f
 falls f h a b c p q = let x = h a b p in let y = h b c q in record { above = omega (arith, ints, clamps); below = omega (arith, ints, clamps) }
 
 -- either of two cases by order
-by_le_z : {P : Type 0} (a b : ℤ) → (a ≤ℤ b → P) → (b ≤ℤ a → P) → P
+pub by_le_z : {P : Type 0} (a b : ℤ) → (a ≤ℤ b → P) → (b ≤ℤ a → P) → P
 by_le_z a b f g = by_lt_z a b (λ l. f (omega (arith, ints))) g
 
 clamp-rises : (limits : Interval) (a b : ℤ) → a ≤ℤ b → clamp limits a ≤ℤ clamp limits b
@@ -66,6 +67,18 @@ share-monotone r = (
   (λ g. rises (λ a. share r a g) (λ a b h. share-rises r a b g h)),
   (λ a. by_le_z (pos 0) a (λ p. rises (share r a) (λ g h q. share-up r a g h p q)) (λ p. falls (share r a) (λ g h q. share-down r a g h p q))),
 )
+
+-- `gain` rises where its ppm are not negative, and else falls
+pub gain-up : (r : Rounding) (k a b : ℤ) → pos 0 ≤ℤ k → a ≤ℤ b → gain r k a ≤ℤ gain r k b
+unfolding gain
+gain-up r k a b p h = quotient-rises r (a *ℤ k) (b *ℤ k) million (times-le a b k p h)
+
+pub gain-down : (r : Rounding) (k a b : ℤ) → k ≤ℤ pos 0 → a ≤ℤ b → gain r k b ≤ℤ gain r k a
+unfolding gain
+gain-down r k a b p h = quotient-rises r (b *ℤ k) (a *ℤ k) million (omega (arith, ints, ge-times a b k p h, *ℤ_comm k a, *ℤ_comm k b))
+
+pub gain-monotone : (r : Rounding) (k : ℤ) → IsMonotone1 (gain r k)
+gain-monotone r k = by_le_z (pos 0) k (λ p. rises (gain r k) (λ a b h. gain-up r k a b p h)) (λ p. falls (gain r k) (λ a b h. gain-down r k a b p h))
 
 -- the share of a number lies from 0 to the number
 pub share-between_up : (r : Rounding) (a g : ℤ) → pos 0 ≤ℤ a → (pos 0 ≤ℤ share r a g) × (share r a g ≤ℤ a)
@@ -282,6 +295,18 @@ zero-around n = record { above = omega (arith, ints); below = omega (arith, ints
 pub share-around : (r : Rounding) (a g : ℤ) (n : ℕ) → Holds (around n) a → Holds (around n) (share r a g)
 share-around r a g n h = between-around (pos 0) a (share r a g) n (zero-around n) h (share-between r a g)
 
+-- a gain of a number up to 10^13 in size by ppm up to 10^9
+pub gain-around : (r : Rounding) (k a : ℤ) → Holds (around 10000000000000) a → Holds (around 1000000000) k → Holds (around 10000000000000000) (gain r k a)
+unfolding gain
+gain-around r k a h p =
+    let n = product-around a k 10000000000000 1000000000 h p in
+    let low : (neg_ℤ (pos 10000000000000000) *ℤ divisor million) ≤ℤ (a *ℤ k) = omega (arith, ints, clamps) in
+    let high : (a *ℤ k) ≤ℤ (pos 10000000000000000 *ℤ divisor million) = omega (arith, ints, clamps) in
+    record {
+      above = omega (arith, ints, quotient-rises r (neg_ℤ (pos 10000000000000000) *ℤ divisor million) (a *ℤ k) million low, quotient-exact r (neg_ℤ (pos 10000000000000000)) million);
+      below = omega (arith, ints, quotient-rises r (a *ℤ k) (pos 10000000000000000 *ℤ divisor million) million high, quotient-exact r (pos 10000000000000000) million);
+    }
+
 pub keep-around : (r : Rounding) (a g : ℤ) (n : ℕ) → Holds (around n) a → Holds (around n) (keep r a g)
 keep-around r a g n h = between-around (pos 0) a (keep r a g) n (zero-around n) h (keep-between r a g)
 
@@ -295,6 +320,10 @@ same-blend r c d m w v n e f = ap (λ (t : ℤ). quotient r (weighed c d t (part
 pub share-is : (r : Rounding) (a g : ℤ) → share r a g ≡ quotient r (a *ℤ part million g) million
 unfolding share
 share-is r a g = refl
+
+pub gain-is : (r : Rounding) (k a : ℤ) → gain r k a ≡ quotient r (a *ℤ k) million
+unfolding gain
+gain-is r k a = refl
 
 pub keep-is : (r : Rounding) (a g : ℤ) → keep r a g ≡ a -ℤ share r a g
 unfolding keep

@@ -6,10 +6,11 @@ use Rattle.std.specs.Prelude.{slice_index_or}
 use Rattle.quant.specs.Interval.{Interval, Holds, IsBand, IsInside, AllHold, AllInside, AllBands, point, points}
 use Rattle.quant.specs.Hull.{hull1, hull2, hull4}
 use Rattle.quant.specs.Rounding.{Rounding}
-use Rattle.quant.specs.Operation.{share, keep, blend, clamp}
-use Rattle.quant.specs.Term.{Term, state, input, number, sum, difference, share_of, rest_of, blend_of, clamped, value, values, interval, intervals}
+use Rattle.quant.specs.Operation.{share, keep, gain, blend, mix, clamp}
+use Rattle.quant.specs.Term.{Term, state, input, number, sum, difference, share_of, rest_of, blend_of, gain_of, mix_of, clamped, value, values, interval, intervals}
 use Rattle.quant.proofs.Hulls.{hull1-holds, hull2-holds, hull4-holds, hull1-band, hull2-band, hull4-band, hull1-inside, hull2-inside, hull4-inside, hull1-point, hull2-point, hull4-point}
-use Rattle.quant.proofs.Operations.{clamp-monotone, sum-monotone, difference-monotone, share-monotone, keep-monotone, blend-monotone}
+use Rattle.quant.proofs.Operations.{clamp-monotone, sum-monotone, difference-monotone, share-monotone, keep-monotone, gain-monotone, blend-monotone}
+use Rattle.quant.proofs.Mixing.{mix-monotone}
 
 -- the number at a place lies in the band at this place
 pub place-holds : (As : List Interval) (zs : List ℤ) (n : ℕ) → AllHold As zs →
@@ -63,6 +64,12 @@ interval-holds r states inputs st ins h k (blend_of t u v w) =
     hull4-holds (blend r) _ _ _ _ _ _ _ _ (blend-monotone r)
     (interval-holds r states inputs st ins h k t) (interval-holds r states inputs st ins h k u)
     (interval-holds r states inputs st ins h k v) (interval-holds r states inputs st ins h k w)
+interval-holds r states inputs st ins h k (gain_of g t) =
+    hull1-holds (gain r g) _ _ (gain-monotone r g) (interval-holds r states inputs st ins h k t)
+interval-holds r states inputs st ins h k (mix_of t u v w) =
+    hull4-holds (mix r) _ _ _ _ _ _ _ _ (mix-monotone r)
+    (interval-holds r states inputs st ins h k t) (interval-holds r states inputs st ins h k u)
+    (interval-holds r states inputs st ins h k v) (interval-holds r states inputs st ins h k w)
 interval-holds r states inputs st ins h k (clamped limits t) =
     hull1-holds (clamp limits) _ _ (clamp-monotone limits) (interval-holds r states inputs st ins h k t)
 
@@ -82,6 +89,11 @@ interval-band r states inputs h k (rest_of t u) =
     hull2-band (keep r) _ _ (keep-monotone r) (interval-band r states inputs h k t) (interval-band r states inputs h k u)
 interval-band r states inputs h k (blend_of t u v w) =
     hull4-band (blend r) _ _ _ _ (blend-monotone r) (interval-band r states inputs h k t) (interval-band r states inputs h k u)
+    (interval-band r states inputs h k v) (interval-band r states inputs h k w)
+interval-band r states inputs h k (gain_of g t) =
+    hull1-band (gain r g) _ (gain-monotone r g) (interval-band r states inputs h k t)
+interval-band r states inputs h k (mix_of t u v w) =
+    hull4-band (mix r) _ _ _ _ (mix-monotone r) (interval-band r states inputs h k t) (interval-band r states inputs h k u)
     (interval-band r states inputs h k v) (interval-band r states inputs h k w)
 interval-band r states inputs h k (clamped limits t) =
     hull1-band (clamp limits) _ (clamp-monotone limits) (interval-band r states inputs h k t)
@@ -107,6 +119,13 @@ interval-inside r states inputs ws wi s i h k (rest_of t u) =
     (interval-inside r states inputs ws wi s i h k t) (interval-inside r states inputs ws wi s i h k u)
 interval-inside r states inputs ws wi s i h k (blend_of t u v w) =
     hull4-inside (blend r) _ _ _ _ _ _ _ _ (blend-monotone r) (interval-band r states inputs s i t) (interval-band r states inputs s i u)
+    (interval-band r states inputs s i v) (interval-band r states inputs s i w)
+    (interval-inside r states inputs ws wi s i h k t) (interval-inside r states inputs ws wi s i h k u)
+    (interval-inside r states inputs ws wi s i h k v) (interval-inside r states inputs ws wi s i h k w)
+interval-inside r states inputs ws wi s i h k (gain_of g t) =
+    hull1-inside (gain r g) _ _ (gain-monotone r g) (interval-band r states inputs s i t) (interval-inside r states inputs ws wi s i h k t)
+interval-inside r states inputs ws wi s i h k (mix_of t u v w) =
+    hull4-inside (mix r) _ _ _ _ _ _ _ _ (mix-monotone r) (interval-band r states inputs s i t) (interval-band r states inputs s i u)
     (interval-band r states inputs s i v) (interval-band r states inputs s i w)
     (interval-inside r states inputs ws wi s i h k t) (interval-inside r states inputs ws wi s i h k u)
     (interval-inside r states inputs ws wi s i h k v) (interval-inside r states inputs ws wi s i h k w)
@@ -141,6 +160,11 @@ interval-point r st ins (rest_of t u) =
     at_points2 (keep r) _ _ _ _ (interval-point r st ins t) (interval-point r st ins u)
 interval-point r st ins (blend_of t u v w) =
     at_points4 (blend r) _ _ _ _ _ _ _ _
+    (interval-point r st ins t) (interval-point r st ins u) (interval-point r st ins v) (interval-point r st ins w)
+interval-point r st ins (gain_of g t) =
+    at_points1 (gain r g) _ _ (interval-point r st ins t)
+interval-point r st ins (mix_of t u v w) =
+    at_points4 (mix r) _ _ _ _ _ _ _ _
     (interval-point r st ins t) (interval-point r st ins u) (interval-point r st ins v) (interval-point r st ins w)
 interval-point r st ins (clamped limits t) =
     at_points1 (clamp limits) _ _ (interval-point r st ins t)

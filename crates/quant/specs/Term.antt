@@ -3,7 +3,7 @@ use Rattle.std.specs.Prelude.{ℕ, ℤ, pos, ◌+ℤ◌, ◌-ℤ◌, List, map, 
 use Rattle.quant.specs.Interval.{Interval, point}
 use Rattle.quant.specs.Hull.{hull1, hull2, hull4}
 use Rattle.quant.specs.Rounding.{Rounding}
-use Rattle.quant.specs.Operation.{share, keep, blend, clamp}
+use Rattle.quant.specs.Operation.{share, keep, gain, blend, mix, clamp}
 
 -- what stands on the right of a unit's equation
 pub data Term : Type 0 where
@@ -15,6 +15,9 @@ pub data Term : Type 0 where
   share_of : Term → Term → Term
   rest_of : Term → Term → Term
   blend_of : Term → Term → Term → Term → Term
+  -- by a parameter k
+  gain_of : ℤ → Term → Term
+  mix_of : Term → Term → Term → Term → Term
   clamped : Interval → Term → Term
 
 -- the term on numbers
@@ -27,6 +30,8 @@ value r states inputs (difference t u) = value r states inputs t -ℤ value r st
 value r states inputs (share_of t u) = share r (value r states inputs t) (value r states inputs u)
 value r states inputs (rest_of t u) = keep r (value r states inputs t) (value r states inputs u)
 value r states inputs (blend_of t u v w) = blend r (value r states inputs t) (value r states inputs u) (value r states inputs v) (value r states inputs w)
+value r states inputs (gain_of k t) = gain r k (value r states inputs t)
+value r states inputs (mix_of t u v w) = mix r (value r states inputs t) (value r states inputs u) (value r states inputs v) (value r states inputs w)
 value r states inputs (clamped limits t) = clamp limits (value r states inputs t)
 
 -- the term on bands: the same line, each operation by its hull
@@ -39,6 +44,8 @@ interval r states inputs (difference t u) = hull2 ◌-ℤ◌ (interval r states 
 interval r states inputs (share_of t u) = hull2 (share r) (interval r states inputs t) (interval r states inputs u)
 interval r states inputs (rest_of t u) = hull2 (keep r) (interval r states inputs t) (interval r states inputs u)
 interval r states inputs (blend_of t u v w) = hull4 (blend r) (interval r states inputs t) (interval r states inputs u) (interval r states inputs v) (interval r states inputs w)
+interval r states inputs (gain_of k t) = hull1 (gain r k) (interval r states inputs t)
+interval r states inputs (mix_of t u v w) = hull4 (mix r) (interval r states inputs t) (interval r states inputs u) (interval r states inputs v) (interval r states inputs w)
 interval r states inputs (clamped limits t) = hull1 (clamp limits) (interval r states inputs t)
 
 -- each term of a list

@@ -2,7 +2,7 @@ ghost use Rattle.std.specs.Prelude.{◌≡◌, ℤ, ◌+ℤ◌, ◌-ℤ◌, List
 ghost use Rattle.quant.specs.Interval.{Interval, AllHold, AllInside, AllBands, points};
 ghost use Rattle.quant.specs.Hull.{IsMonotone1, IsMonotone2, IsMonotone4};
 ghost use Rattle.quant.specs.Rounding.{Rounding};
-ghost use Rattle.quant.specs.Operation.{share, keep, blend, clamp};
+ghost use Rattle.quant.specs.Operation.{share, keep, gain, blend, mix, clamp};
 ghost use Rattle.quant.specs.Term.{Term, values, intervals};
 
 /// Each operation rises or falls in each argument with the others held, whatever the rounding: so
@@ -12,7 +12,9 @@ pub fn operations_are_monotone()
     ensures sub { IsMonotone2 ◌-ℤ◌ }
     ensures share { (r : Rounding) → IsMonotone2 (share r) }
     ensures keep { (r : Rounding) → IsMonotone2 (keep r) }
+    ensures gain { (r : Rounding) (k : ℤ) → IsMonotone1 (gain r k) }
     ensures blend { (r : Rounding) → IsMonotone4 (blend r) }
+    ensures mix { (r : Rounding) → IsMonotone4 (mix r) }
     ensures clamp { (limits : Interval) → IsMonotone1 (clamp limits) }
 {}
 

@@ -56,7 +56,7 @@ pub fn keep_band(a: Band, g: Band) -> Band
 }
 
 /// `upper` where `a` is not negative, and else `lower`.
-fn by_sign(a: i64, upper: i64, lower: i64) -> i64
+pub(crate) fn by_sign(a: i64, upper: i64, lower: i64) -> i64
     ensures not_negative { pos 0 ≤ℤ a → result ≡ upper }
     ensures negative { a <ℤ pos 0 → result ≡ lower }
 {

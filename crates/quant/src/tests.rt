@@ -22,6 +22,35 @@ fn shares_round_down(rt: HostRuntime) {
 }
 
 #[test]
+fn gains_round_down(rt: HostRuntime) {
+    let rows = [
+        (gain(-1, 1), -1),
+        (gain(3, -500_000), -2),
+        // its product has more than 64 bits
+        (
+            gain(1_000_000_000_000, 1_000_000_000),
+            1_000_000_000_000_000,
+        ),
+    ];
+    for (got, want) in rows {
+        assert_eq!(rt; got, want);
+    }
+}
+
+#[test]
+fn mixes_weigh_by_flow(rt: HostRuntime) {
+    let rows = [
+        (mix(5, 9, 0, 0), 5),
+        (mix(5, 9, 0, 3), 9),
+        (mix(0, 10, 2, 1), 3),
+        (mix(-10, 0, 1, 2), -4),
+    ];
+    for (got, want) in rows {
+        assert_eq!(rt; got, want);
+    }
+}
+
+#[test]
 fn blends_weigh_by_volume(rt: HostRuntime) {
     let rows = [
         (blend(1, 100, 10, 1_002), 1),
@@ -67,9 +96,15 @@ fn bands_are_exact_hulls(rt: HostRuntime) {
     let rows = [
         (share_band(seven, Band::point(500_000)), -4, 3),
         (keep_band(seven, Band { lo: 0, hi: MILLION }), -7, 7),
+        (gain_band(seven, -500_000), -4, 3),
         (blend_band(zero, hundred, part, volume), 50, 100),
         // the new below the old
         (blend_band(hundred, zero, part, volume), 0, 50),
+        (
+            mix_band(Band::point(5), Band::point(9), zero, Band { lo: 0, hi: 1 }),
+            5,
+            9,
+        ),
         (add_band(low, high), 6, 11),
         (sub_band(low, high), -8, -3),
         (clamp_band(Band { lo: 0, hi: 100 }, volume), 10, 20),

@@ -6,8 +6,8 @@ use Rattle.quant.specs.Hull.{hull4, IsHull, IsValue2, IsValue4}
 use Rattle.quant.specs.Rounding.{Floor}
 use Rattle.quant.specs.Operation.{blend}
 use Rattle.quant.proofs.Hulls.{one_hull, hull4-exact}
-use Rattle.quant.proofs.Operations.{blend-monotone}
-use Rattle.quant.proofs.Corners.{blend-corners, blend-inside, hull-ordered, moved, holds-band}
+use Rattle.quant.proofs.Operations.{blend-old, blend-added, blend-between, blend-monotone}
+use Rattle.quant.proofs.Corners.{corners4, hull-inside_contents, hull-ordered, moved, holds-band}
 use Rattle.quant.proofs.blends.blend_band.Goals as goal
 
 band-c : (c : goal.After-greatest) → IsBand c.args.c
@@ -42,7 +42,7 @@ exact c =
     (sym (to_z-of_z w64 c.greatest.result q))
     (c.greatest.ensures.found, c.greatest.ensures.greatest)
     in
-    blend-corners Floor c.args.c c.args.d M V (to_z w64 (of_z w64 c.least.result)) (to_z w64 (of_z w64 c.greatest.result)) (band-c c) (band-d c) least.0 least.1 greatest.0 greatest.1
+    corners4 (blend Floor) (blend-old Floor) (blend-added Floor) c.args.c c.args.d M V (to_z w64 (of_z w64 c.least.result)) (to_z w64 (of_z w64 c.greatest.result)) (band-c c) (band-d c) least.0 least.1 greatest.0 greatest.1
 
 pub invariant_of-result : goal.invariant_of-result
 invariant_of-result c = hull-ordered _ _ (exact c)
@@ -51,7 +51,7 @@ pub returns-clause-exact : goal.returns-clause-exact
 returns-clause-exact c = exact c
 
 pub returns-clause-between : goal.returns-clause-between
-returns-clause-between c = blend-inside Floor c.args.c c.args.d c.args.m c.args.v _ (exact c)
+returns-clause-between c = hull-inside_contents (blend Floor) (blend-between Floor) c.args.c c.args.d c.args.m c.args.v _ (exact c)
 
 pub returns-clause-hull : goal.returns-clause-hull
 returns-clause-hull c =

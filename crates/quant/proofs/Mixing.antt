@@ -1,0 +1,142 @@
+-- A mix is a blend: of both flows together, the second replaces the first. So it is monotone in each argument.
+use Rattle.std.proofs.Common.{◌≡◌, ℕ, ℤ, pos, ◌+ℤ◌, ◌-ℤ◌, ◌*ℤ◌, ◌≤ℤ◌, ◌<ℤ◌, Bool, true, false, if◌then◌else◌, int_le, arith, refl, sym, ap, subst, ◌∙◌}
+use Rattle.std.proofs.lemmas.Int.{ints, clamps, by_lt_z}
+use Rattle.std.proofs.lemmas.Bool.{false_from_ne_true}
+use lib.Dec.{T}
+use lib.Signed.{le_z_yes}
+use Rattle.quant.specs.Interval.{Holds, join, point, around}
+use Rattle.quant.specs.Hull.{IsMonotone4}
+use Rattle.quant.specs.Rounding.{Rounding, quotient, divisor}
+use Rattle.quant.specs.Operation.{not_negative, blend, mix}
+use Rattle.quant.proofs.Division.{quotient-exact_whole}
+use Rattle.quant.proofs.Operations.{rises, falls, by_le_z, weighed, weighed-is, blend-is, blend-old, blend-added, blend-volume_up, blend-volume_down, blend-between, blend-around}
+
+-- what a test tells
+passes : (b : Bool) → T b → b ≡ true
+passes true t = refl
+passes false t = absurd t
+
+test-yes : (a b : ℤ) → a ≤ℤ b → int_le a b ≡ true
+test-yes a b h = passes (int_le a b) h.le
+
+test-no : (a b : ℤ) → b <ℤ a → int_le a b ≡ false
+test-no a b h = false_from_ne_true (int_le a b) (λ e. let k : a ≤ℤ b = le_z_yes (subst T (sym e) tt) in omega (arith, ints))
+
+-- both flows together
+abbrev pub both : ℤ → ℤ → ℤ
+both m n = not_negative m +ℤ not_negative n
+
+-- where something flows, the quotient of the definition
+pub mix-flows : (r : Rounding) (c d m n : ℤ) → pos 1 ≤ℤ both m n → mix r c d m n ≡ quotient r (c *ℤ not_negative m +ℤ d *ℤ not_negative n) (both m n)
+unfolding mix
+mix-flows r c d m n h =
+    ap (λ t. if t then c else quotient r (c *ℤ not_negative m +ℤ d *ℤ not_negative n) (both m n)) (test-no (both m n) (pos 0) (omega (arith, ints)))
+
+-- and where nothing does, the first
+pub mix-still : (r : Rounding) (c d m n : ℤ) → both m n ≤ℤ pos 0 → mix r c d m n ≡ c
+unfolding mix
+mix-still r c d m n h =
+    ap (λ t. if t then c else quotient r (c *ℤ not_negative m +ℤ d *ℤ not_negative n) (both m n)) (test-yes (both m n) (pos 0) h)
+
+-- a blend of which nothing is replaced
+blend-nothing : (r : Rounding) (c d v : ℤ) → pos 1 ≤ℤ v → blend r c d (pos 0) v ≡ c
+blend-nothing r c d v h =
+    let whole : weighed c d v (pos 0) ≡ c *ℤ v = weighed-is c d v (pos 0) ∙ omega (arith, ints) in
+    blend-is r c d (pos 0) v (pos 0) h (omega (arith, ints, clamps)) ∙ ap (λ t. quotient r t v) whole ∙ quotient-exact_whole r c v h
+
+-- the volume of the blend that a mix is
+abbrev pub volume : ℤ → ℤ → ℤ
+volume m n = divisor (both m n)
+
+pub mix-is_blend : (r : Rounding) (c d m n : ℤ) → mix r c d m n ≡ blend r c d (not_negative n) (volume m n)
+mix-is_blend r c d m n =
+    by_lt_z (pos 0) (both m n)
+    (λ l.
+    let v : volume m n ≡ both m n = omega (arith, ints, clamps) in
+    let kept : not_negative m ≡ both m n -ℤ not_negative n = omega (arith, ints) in
+    mix-flows r c d m n (omega (arith, ints))
+    ∙ ap (λ t. quotient r (c *ℤ t +ℤ d *ℤ not_negative n) (both m n)) kept
+    ∙ ap (λ t. quotient r (weighed c d t (not_negative n)) t) (sym v)
+    ∙ sym (blend-is r c d (not_negative n) (volume m n) (not_negative n) (omega (arith, ints, clamps)) (omega (arith, ints, clamps))))
+    (λ l.
+    let none : not_negative n ≡ pos 0 = omega (arith, ints, clamps) in
+    mix-still r c d m n l ∙ sym (ap (λ t. blend r c d t (volume m n)) none ∙ blend-nothing r c d (volume m n) (omega (arith, ints, clamps))))
+
+-- where something flows the order of the two does not matter
+mix-swaps : (r : Rounding) (c d m n : ℤ) → pos 1 ≤ℤ both m n → mix r c d m n ≡ mix r d c n m
+mix-swaps r c d m n h =
+    let products : (c *ℤ not_negative m +ℤ d *ℤ not_negative n) ≡ (d *ℤ not_negative n +ℤ c *ℤ not_negative m) = omega (arith, ints) in
+    let flows : both m n ≡ both n m = omega (arith, ints) in
+    mix-flows r c d m n h
+    ∙ ap (λ t. quotient r t (both m n)) products
+    ∙ ap (quotient r (d *ℤ not_negative n +ℤ c *ℤ not_negative m)) flows
+    ∙ sym (mix-flows r d c n m (omega (arith, ints)))
+
+-- it rises with both contents
+pub mix-first : (r : Rounding) (a b d m n : ℤ) → a ≤ℤ b → mix r a d m n ≤ℤ mix r b d m n
+mix-first r a b d m n h = omega (arith, ints, mix-is_blend r a d m n, mix-is_blend r b d m n, blend-old r a b d (not_negative n) (volume m n) h)
+
+pub mix-second : (r : Rounding) (c a b m n : ℤ) → a ≤ℤ b → mix r c a m n ≤ℤ mix r c b m n
+mix-second r c a b m n h = omega (arith, ints, mix-is_blend r c a m n, mix-is_blend r c b m n, blend-added r c a b (not_negative n) (volume m n) h)
+
+volume-rises : (k m n : ℤ) → k ≤ℤ m → volume k n ≤ℤ volume m n
+volume-rises k m n h = omega (arith, ints, clamps)
+
+-- it goes towards the first content with the first flow
+pub mix-first_flow_down : (r : Rounding) (c d k m n : ℤ) → c ≤ℤ d → k ≤ℤ m → mix r c d m n ≤ℤ mix r c d k n
+mix-first_flow_down r c d k m n p h =
+    omega (arith, ints, mix-is_blend r c d k n, mix-is_blend r c d m n, blend-volume_down r c d (not_negative n) (volume k n) (volume m n) p (volume-rises k m n h))
+
+pub mix-first_flow_up : (r : Rounding) (c d k m n : ℤ) → d ≤ℤ c → k ≤ℤ m → mix r c d k n ≤ℤ mix r c d m n
+mix-first_flow_up r c d k m n p h =
+    omega (arith, ints, mix-is_blend r c d k n, mix-is_blend r c d m n, blend-volume_up r c d (not_negative n) (volume k n) (volume m n) p (volume-rises k m n h))
+
+-- it lies between the contents
+pub mix-between : (r : Rounding) (c d m n : ℤ) → Holds (join (point c) (point d)) (mix r c d m n)
+mix-between r c d m n = subst (Holds (join (point c) (point d))) (sym (mix-is_blend r c d m n)) (blend-between r c d (not_negative n) (volume m n))
+
+-- and is the second where that alone flows
+mix-second_alone : (r : Rounding) (c d m n : ℤ) → m ≤ℤ pos 0 → pos 1 ≤ℤ n → mix r c d m n ≡ d
+mix-second_alone r c d m n h k =
+    let none : not_negative m ≡ pos 0 = omega (arith, ints, clamps) in
+    mix-swaps r c d m n (omega (arith, ints, clamps))
+    ∙ mix-is_blend r d c n m
+    ∙ ap (λ t. blend r d c t (volume n m)) none
+    ∙ blend-nothing r d c (volume n m) (omega (arith, ints, clamps))
+
+-- it goes towards the second content with the second flow
+pub mix-second_flow_up : (r : Rounding) (c d m k n : ℤ) → c ≤ℤ d → k ≤ℤ n → mix r c d m k ≤ℤ mix r c d m n
+mix-second_flow_up r c d m k n p h =
+    by_lt_z (pos 0) m
+    (λ l. omega (arith, ints, clamps, mix-swaps r c d m k (omega (arith, ints, clamps)), mix-swaps r c d m n (omega (arith, ints, clamps)), mix-first_flow_up r d c k n m p h))
+    (λ l. by_lt_z (pos 0) k
+    (λ s. omega (arith, ints, mix-second_alone r c d m k l (omega (arith, ints)), mix-second_alone r c d m n l (omega (arith, ints))))
+    (λ s.
+    let b = mix-between r c d m n in
+    omega (arith, ints, clamps, mix-still r c d m k (omega (arith, ints, clamps)))))
+
+pub mix-second_flow_down : (r : Rounding) (c d m k n : ℤ) → d ≤ℤ c → k ≤ℤ n → mix r c d m n ≤ℤ mix r c d m k
+mix-second_flow_down r c d m k n p h =
+    by_lt_z (pos 0) m
+    (λ l. omega (arith, ints, clamps, mix-swaps r c d m k (omega (arith, ints, clamps)), mix-swaps r c d m n (omega (arith, ints, clamps)), mix-first_flow_down r d c k n m p h))
+    (λ l. by_lt_z (pos 0) k
+    (λ s. omega (arith, ints, mix-second_alone r c d m k l (omega (arith, ints)), mix-second_alone r c d m n l (omega (arith, ints))))
+    (λ s.
+    let b = mix-between r c d m n in
+    omega (arith, ints, clamps, mix-still r c d m k (omega (arith, ints, clamps)))))
+
+pub mix-monotone : (r : Rounding) → IsMonotone4 (mix r)
+mix-monotone r = (
+  (λ d m n. rises (λ c. mix r c d m n) (λ a b h. mix-first r a b d m n h)),
+  (λ c. (
+    (λ m n. rises (λ d. mix r c d m n) (λ a b h. mix-second r c a b m n h)),
+    (λ d. (
+      (λ n. by_le_z c d (λ p. falls (λ m. mix r c d m n) (λ k m h. mix-first_flow_down r c d k m n p h)) (λ p. rises (λ m. mix r c d m n) (λ k m h. mix-first_flow_up r c d k m n p h))),
+      (λ m. by_le_z c d (λ p. rises (mix r c d m) (λ k n h. mix-second_flow_up r c d m k n p h)) (λ p. falls (mix r c d m) (λ k n h. mix-second_flow_down r c d m k n p h))),
+    )),
+  )),
+)
+
+-- so it fits where they do
+pub mix-around : (r : Rounding) (c d m n : ℤ) (k : ℕ) → Holds (around k) c → Holds (around k) d → Holds (around k) (mix r c d m n)
+mix-around r c d m n k h i = subst (Holds (around k)) (sym (mix-is_blend r c d m n)) (blend-around r c d (not_negative n) (volume m n) k h i)
