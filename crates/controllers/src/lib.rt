@@ -1,0 +1,9 @@
+//! Controllers: a PI controller with a clamped integral.
+#![tactic(auto)]
+
+mod controller;
+
+pub use controller::Controller;
+
+#[cfg(test)]
+mod tests;
