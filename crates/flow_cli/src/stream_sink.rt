@@ -17,7 +17,10 @@ pub type OutSink = StreamSink<Stdout>;
 pub type ErrSink = StreamSink<Stderr>;
 
 impl<W: Write> StreamSink<W> {
-    pub fn new(stream: W) -> Self {
+    /// The sink over this stream, with no fault counted yet.
+    pub fn new(stream: W) -> Self
+        ensures { result.faults ≡ 0 }
+    {
         StreamSink { stream, faults: 0 }
     }
 }

@@ -19,7 +19,10 @@ pub struct StreamSource<R> {
 pub type InSource = StreamSource<Stdin>;
 
 impl<R: Read> StreamSource<R> {
-    pub fn new(stream: R) -> Self {
+    /// The source over this stream, with no fault counted yet.
+    pub fn new(stream: R) -> Self
+        ensures { result.faults ≡ 0 }
+    {
         StreamSource { stream, faults: 0 }
     }
 }
