@@ -49,6 +49,12 @@ pub given4 : (f : ℤ → ℤ → ℤ → ℤ → ℤ) (u v w x r a b c d : ℤ)
     to_z w64 (of_z w64 r) ≡ f a b c d
 given4 f u v w x r a b c d h e i j k l = given2 (f u v) w x r c d h e k l ∙ (ap (λ (t : ℤ). f u t c d) j ∙ ap (λ (t : ℤ). f t b c d) i)
 
+pub given7 : (f : ℤ → ℤ → ℤ → ℤ → ℤ → ℤ → ℤ → ℤ) (u v w x y z t r a b c d e g i : ℤ) → FitsSigned w64 r → r ≡ f u v w x y z t →
+    u ≡ a → v ≡ b → w ≡ c → x ≡ d → y ≡ e → z ≡ g → t ≡ i → to_z w64 (of_z w64 r) ≡ f a b c d e g i
+given7 f u v w x y z t r a b c d e g i h q j k l m n o p =
+    given4 (f u v w) x y z t r d e g i h q m n o p
+    ∙ (ap (λ (s : ℤ). f u v s d e g i) l ∙ (ap (λ (s : ℤ). f u s c d e g i) k ∙ ap (λ (s : ℤ). f s b c d e g i) j))
+
 -- the same on bands, which have no casts
 pub hulled2 : (f : Interval → Interval → Interval) (U V R A B : Interval) → R ≡ f U V → U ≡ A → V ≡ B → R ≡ f A B
 hulled2 f U V R A B e d g = e ∙ (ap (f U) g ∙ ap (λ (t : Interval). f t B) d)

@@ -31,3 +31,16 @@ sum-fits x y a b e f h k = omega (arith, ints, back x a e h, back y b f k)
 pub sum-back : (x y a b : ℤ) → x ≡ a → y ≡ b → Holds (around 100000000000000000000000000000) a → Holds (around 100000000000000000000000000000) b →
     to_z w128 (of_z w128 (to_z w128 (of_z w128 x) +ℤ to_z w128 (of_z w128 y))) ≡ a +ℤ b
 sum-back x y a b e f h k = omega (arith, ints, back x a e h, back y b f k)
+
+-- and a sum of three that are a little greater
+two-back : (p q : ℤ) → Holds (around 10000000000000000000000000000000000) p → Holds (around 10000000000000000000000000000000000) q →
+    to_z w128 (of_z w128 (to_z w128 (of_z w128 p) +ℤ to_z w128 (of_z w128 q))) ≡ p +ℤ q
+two-back p q h k = omega (arith, ints)
+
+pub three-fit : (p q s : ℤ) → Holds (around 10000000000000000000000000000000000) p → Holds (around 10000000000000000000000000000000000) q → Holds (around 10000000000000000000000000000000000) s →
+    FitsSigned w128 (to_z w128 (of_z w128 (to_z w128 (of_z w128 p) +ℤ to_z w128 (of_z w128 q))) +ℤ to_z w128 (of_z w128 s))
+three-fit p q s h k i = rw (two-back p q h k) (omega (arith, ints))
+
+pub three-back : (p q s : ℤ) → Holds (around 10000000000000000000000000000000000) p → Holds (around 10000000000000000000000000000000000) q → Holds (around 10000000000000000000000000000000000) s →
+    to_z w128 (of_z w128 (to_z w128 (of_z w128 (to_z w128 (of_z w128 p) +ℤ to_z w128 (of_z w128 q))) +ℤ to_z w128 (of_z w128 s))) ≡ (p +ℤ q) +ℤ s
+three-back p q s h k i = rw (two-back p q h k) (omega (arith, ints))

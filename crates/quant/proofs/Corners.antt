@@ -1,12 +1,14 @@
 -- The corners of bands at which an operation is least and greatest.
-use Rattle.std.proofs.Common.{◌≡◌, ℤ, pos, ◌≤ℤ◌, ◌<ℤ◌, FitsSigned, to_z, of_z, arith, sym, refl, ap, subst, ◌∙◌}
+use Rattle.std.proofs.Common.{◌≡◌, ℤ, pos, ◌*ℤ◌, ◌≤ℤ◌, ◌<ℤ◌, FitsSigned, to_z, of_z, arith, sym, refl, ap, subst, ◌∙◌}
 use Rattle.std.proofs.lemmas.Int.{ints, clamps, to_z-of_z, by_lt_z}
 use Rattle.std.specs.Int.{w64}
 use Rattle.quant.specs.Interval.{Interval, Holds, IsBand, IsInside, join, point}
-use Rattle.quant.specs.Hull.{IsHull, IsValue1, IsValue2, IsValue4}
+use Rattle.quant.specs.Hull.{IsHull, IsValue1, IsValue2, IsValue4, IsValue5}
 use Rattle.quant.specs.Rounding.{Rounding}
-use Rattle.quant.specs.Operation.{share, keep, gain, blend, mix}
+use Rattle.quant.specs.Operation.{share, keep, gain, blend, mix, tray, kept, million, stage_flows, slopes, IsDrainable}
 use Rattle.quant.proofs.Operations.{share-up, share-down, gain-up, gain-down, keep-is, blend-part_up, blend-part_down, blend-volume_up, blend-volume_down}
+use Rattle.quant.proofs.Division.{times-le}
+use Rattle.quant.proofs.Stages.{tray-own, tray-above, tray-below, tray-liquid_up, tray-liquid_down, tray-vapour_up, tray-vapour_down}
 use Rattle.quant.proofs.Mixing.{mix-first_flow_up, mix-first_flow_down, mix-second_flow_up, mix-second_flow_down}
 
 -- the function is least over the interval at this number of it, or greatest
@@ -182,3 +184,119 @@ moved P a b p x y q e f g h = subst (λ (t : ℤ). P t b p) e (subst (λ (t : �
 -- a band that holds a number is a band
 pub holds-band : (G : Interval) (x : ℤ) → Holds G x → IsBand G
 holds-band G x h = record { ordered = omega (arith, ints) }
+
+-- a stage is least and greatest at an end of each flow, by which content that flow draws it to
+liquid-least : (r : Rounding) (holdup slope x xa yb v : ℤ) (L : Interval) (y : ℤ) → IsBand L → (x ≤ℤ xa → y ≡ L.lo) → (xa <ℤ x → y ≡ L.hi) →
+    IsLeastAt (λ l. tray r holdup slope x xa yb l v) L y
+liquid-least r holdup slope x xa yb v L y b p q =
+    by_lt_z xa x
+    (λ l. record { holds = high-holds L y b (q l); least = λ u k. tray-liquid_down r holdup slope x xa yb u y v (omega (arith, ints)) (omega (arith, ints, q l, k.below)) })
+    (λ l. record { holds = low-holds L y b (p l); least = λ u k. tray-liquid_up r holdup slope x xa yb y u v l (omega (arith, ints, p l, k.above)) })
+
+liquid-greatest : (r : Rounding) (holdup slope x xa yb v : ℤ) (L : Interval) (y : ℤ) → IsBand L → (x ≤ℤ xa → y ≡ L.hi) → (xa <ℤ x → y ≡ L.lo) →
+    IsGreatestAt (λ l. tray r holdup slope x xa yb l v) L y
+liquid-greatest r holdup slope x xa yb v L y b p q =
+    by_lt_z xa x
+    (λ l. record { holds = low-holds L y b (q l); greatest = λ u k. tray-liquid_down r holdup slope x xa yb y u v (omega (arith, ints)) (omega (arith, ints, q l, k.above)) })
+    (λ l. record { holds = high-holds L y b (p l); greatest = λ u k. tray-liquid_up r holdup slope x xa yb u y v l (omega (arith, ints, p l, k.below)) })
+
+vapour-least : (r : Rounding) (holdup slope x xa yb l : ℤ) (V : Interval) (z : ℤ) → IsBand V →
+    ((x *ℤ slope) ≤ℤ (yb *ℤ million) → z ≡ V.lo) → ((yb *ℤ million) <ℤ (x *ℤ slope) → z ≡ V.hi) → IsLeastAt (tray r holdup slope x xa yb l) V z
+vapour-least r holdup slope x xa yb l V z b p q =
+    by_lt_z (yb *ℤ million) (x *ℤ slope)
+    (λ s. record { holds = high-holds V z b (q s); least = λ u k. tray-vapour_down r holdup slope x xa yb l u z (omega (arith, ints)) (omega (arith, ints, q s, k.below)) })
+    (λ s. record { holds = low-holds V z b (p s); least = λ u k. tray-vapour_up r holdup slope x xa yb l z u s (omega (arith, ints, p s, k.above)) })
+
+vapour-greatest : (r : Rounding) (holdup slope x xa yb l : ℤ) (V : Interval) (z : ℤ) → IsBand V →
+    ((x *ℤ slope) ≤ℤ (yb *ℤ million) → z ≡ V.hi) → ((yb *ℤ million) <ℤ (x *ℤ slope) → z ≡ V.lo) → IsGreatestAt (tray r holdup slope x xa yb l) V z
+vapour-greatest r holdup slope x xa yb l V z b p q =
+    by_lt_z (yb *ℤ million) (x *ℤ slope)
+    (λ s. record { holds = low-holds V z b (q s); greatest = λ u k. tray-vapour_down r holdup slope x xa yb l z u (omega (arith, ints)) (omega (arith, ints, q s, k.above)) })
+    (λ s. record { holds = high-holds V z b (p s); greatest = λ u k. tray-vapour_up r holdup slope x xa yb l u z s (omega (arith, ints, p s, k.below)) })
+
+pub stage-least : (r : Rounding) (holdup slope x xa yb : ℤ) (L V : Interval) (y z p : ℤ) → IsBand L → IsBand V →
+    (x ≤ℤ xa → y ≡ L.lo) → (xa <ℤ x → y ≡ L.hi) → ((x *ℤ slope) ≤ℤ (yb *ℤ million) → z ≡ V.lo) → ((yb *ℤ million) <ℤ (x *ℤ slope) → z ≡ V.hi) →
+    p ≡ tray r holdup slope x xa yb y z →
+    IsValue2 (tray r holdup slope x xa yb) L V p × ((m w : ℤ) → Holds L m → Holds V w → p ≤ℤ tray r holdup slope x xa yb m w)
+stage-least r holdup slope x xa yb L V y z p a b i j k l e =
+    let vapour = vapour-least r holdup slope x xa yb y V z b k l in
+    let liquid : (w : ℤ) → IsLeastAt (λ t. tray r holdup slope x xa yb t w) L y = λ w. liquid-least r holdup slope x xa yb w L y a i j in (
+      (y, (liquid z).holds, (z, vapour.holds, sym e)),
+      (λ m w h g. omega (arith, ints, e, vapour.least w g, (liquid w).least m h)),
+    )
+
+pub stage-greatest : (r : Rounding) (holdup slope x xa yb : ℤ) (L V : Interval) (y z p : ℤ) → IsBand L → IsBand V →
+    (x ≤ℤ xa → y ≡ L.hi) → (xa <ℤ x → y ≡ L.lo) → ((x *ℤ slope) ≤ℤ (yb *ℤ million) → z ≡ V.hi) → ((yb *ℤ million) <ℤ (x *ℤ slope) → z ≡ V.lo) →
+    p ≡ tray r holdup slope x xa yb y z →
+    IsValue2 (tray r holdup slope x xa yb) L V p × ((m w : ℤ) → Holds L m → Holds V w → tray r holdup slope x xa yb m w ≤ℤ p)
+stage-greatest r holdup slope x xa yb L V y z p a b i j k l e =
+    let vapour = vapour-greatest r holdup slope x xa yb y V z b k l in
+    let liquid : (w : ℤ) → IsGreatestAt (λ t. tray r holdup slope x xa yb t w) L y = λ w. liquid-greatest r holdup slope x xa yb w L y a i j in (
+      (y, (liquid z).holds, (z, vapour.holds, sym e)),
+      (λ m w h g. omega (arith, ints, e, vapour.greatest w g, (liquid w).greatest m h)),
+    )
+
+-- what may leave at the upper ends of the flows may leave at any
+pub drainable-below : (holdup slope : ℤ) (L V : Interval) (y z : ℤ) → IsDrainable holdup slope L.hi V.hi → Holds slopes slope → Holds L y → Holds V z →
+    IsDrainable holdup slope y z
+drainable-below holdup slope L V y z d s h k =
+    let n = times-le z V.hi slope s.above k.below in
+    record { leaves = omega (arith, ints, d.leaves); passes = omega (arith, ints, d.passes) }
+
+pub drainable-cast : (holdup slope y z : ℤ) → FitsSigned w64 holdup → FitsSigned w64 slope → FitsSigned w64 y → FitsSigned w64 z → IsDrainable holdup slope y z →
+    IsDrainable (to_z w64 (of_z w64 holdup)) (to_z w64 (of_z w64 slope)) (to_z w64 (of_z w64 y)) (to_z w64 (of_z w64 z))
+drainable-cast holdup slope y z h k i j d =
+    subst (λ (t : ℤ). IsDrainable t (to_z w64 (of_z w64 slope)) (to_z w64 (of_z w64 y)) (to_z w64 (of_z w64 z))) (sym (to_z-of_z w64 holdup h))
+    (subst (λ (t : ℤ). IsDrainable holdup t (to_z w64 (of_z w64 y)) (to_z w64 (of_z w64 z))) (sym (to_z-of_z w64 slope k))
+    (subst (λ (t : ℤ). IsDrainable holdup slope t (to_z w64 (of_z w64 z))) (sym (to_z-of_z w64 y i))
+    (subst (IsDrainable holdup slope y) (sym (to_z-of_z w64 z j)) d)))
+
+pub stage-pushes : (holdup slope : ℤ) (L V : Interval) → Holds slopes slope → IsInside L stage_flows → IsInside V stage_flows → IsDrainable holdup slope L.hi V.hi →
+    (l v : ℤ) → Holds L l → Holds V v → (pos 0 ≤ℤ l) × (pos 0 ≤ℤ v) × (pos 0 ≤ℤ kept holdup slope l v)
+stage-pushes holdup slope L V s i j d l v h k =
+    let e = drainable-below holdup slope L V l v d s h k in (
+      omega (arith, ints),
+      omega (arith, ints),
+      omega (arith, ints, e.leaves),
+    )
+
+-- so the hull of a stage lies between its values at the lower ends and at the upper ends of the contents
+pub stage-corners : (r : Rounding) (holdup slope : ℤ) (X A B L V : Interval) (p q : ℤ) → IsBand X → IsBand A → IsBand B →
+    ((l v : ℤ) → Holds L l → Holds V v → (pos 0 ≤ℤ l) × (pos 0 ≤ℤ v) × (pos 0 ≤ℤ kept holdup slope l v)) →
+    IsValue2 (tray r holdup slope X.lo A.lo B.lo) L V p → ((l v : ℤ) → Holds L l → Holds V v → p ≤ℤ tray r holdup slope X.lo A.lo B.lo l v) →
+    IsValue2 (tray r holdup slope X.hi A.hi B.hi) L V q → ((l v : ℤ) → Holds L l → Holds V v → tray r holdup slope X.hi A.hi B.hi l v ≤ℤ q) →
+    IsHull (IsValue5 (tray r holdup slope) X A B L V) (record { lo = p; hi = q })
+stage-corners r holdup slope X A B L V p q x a b pushes low least high greatest =
+    record {
+      holds = λ z t.
+          let e = t.0 in
+          let f = t.2.0 in
+          let g = t.2.2.0 in
+          let l = t.2.2.2.0 in
+          let v = t.2.2.2.2.0 in
+          let h = t.2.2.2.1 in
+          let k = t.2.2.2.2.1 in
+          let s = pushes l v h k in
+          record {
+            above = omega (
+              arith,
+              ints,
+              least l v h k,
+              tray-own r holdup slope X.lo e A.lo B.lo l v s.2 t.1.above,
+              tray-above r holdup slope e A.lo f B.lo l v s.0 t.2.1.above,
+              tray-below r holdup slope e f B.lo g l v s.1 t.2.2.1.above,
+              t.2.2.2.2.2,
+            );
+            below = omega (
+              arith,
+              ints,
+              greatest l v h k,
+              tray-own r holdup slope e X.hi A.hi B.hi l v s.2 t.1.below,
+              tray-above r holdup slope e f A.hi B.hi l v s.0 t.2.1.below,
+              tray-below r holdup slope e f g B.hi l v s.1 t.2.2.1.below,
+              t.2.2.2.2.2,
+            );
+          };
+      low = (X.lo, low-holds X X.lo x refl, (A.lo, low-holds A A.lo a refl, (B.lo, low-holds B B.lo b refl, low)));
+      high = (X.hi, high-holds X X.hi x refl, (A.hi, high-holds A A.hi a refl, (B.hi, high-holds B B.hi b refl, high)));
+    }

@@ -4,7 +4,7 @@ use Rattle.std.proofs.lemmas.Int.{ints, clamps}
 use mathlib.Core.Logic.{◌⊎◌, inl, inr}
 use Rattle.std.specs.Int.{int_min, int_max}
 use Rattle.quant.specs.Interval.{Interval, Holds, IsBand, IsInside, point, join}
-use Rattle.quant.specs.Hull.{hull1, hull2, hull3, hull4, IsValue1, IsValue2, IsValue3, IsValue4, IsHull, IsMonotone1, IsMonotone2, IsMonotone3, IsMonotone4}
+use Rattle.quant.specs.Hull.{hull1, hull2, hull3, hull4, hull5, IsValue1, IsValue2, IsValue3, IsValue4, IsValue5, IsHull, IsMonotone1, IsMonotone2, IsMonotone3, IsMonotone4, IsMonotone5}
 
 -- the interval between two ends
 abbrev interval_of : ℤ → ℤ → Interval
@@ -136,6 +136,18 @@ hull4-exact f A B C D a b c d m = hull-step (λ x z. IsValue3 (f x) B C D z) (λ
       between = subst (λ y. Holds (join (point (f A.lo v.0 w.0 u.0)) (point (f A.hi v.0 w.0 u.0))) y) u.2 (m.0 v.0 w.0 u.0 A.lo x A.hi h k);
     })
 
+pub hull5-exact : (f : ℤ → ℤ → ℤ → ℤ → ℤ → ℤ) (A B C D E : Interval) → IsBand A → IsBand B → IsBand C → IsBand D → IsBand E → IsMonotone5 f →
+    IsHull (IsValue5 f A B C D E) (hull5 f A B C D E)
+hull5-exact f A B C D E a b c d e m = hull-step (λ x z. IsValue4 (f x) B C D E z) (λ x. hull4 (f x) B C D E) A a (λ x. hull4-exact (f x) B C D E b c d e (m.1 x))
+    (λ x z h k v. let w = v.2 in let u = w.2 in let t = u.2 in
+    record {
+      left = f A.lo v.0 w.0 u.0 t.0;
+      right = f A.hi v.0 w.0 u.0 t.0;
+      at_left = (v.0, v.1, (w.0, w.1, (u.0, u.1, (t.0, t.1, refl))));
+      at_right = (v.0, v.1, (w.0, w.1, (u.0, u.1, (t.0, t.1, refl))));
+      between = subst (λ y. Holds (join (point (f A.lo v.0 w.0 u.0 t.0)) (point (f A.hi v.0 w.0 u.0 t.0))) y) t.2 (m.0 v.0 w.0 u.0 t.0 A.lo x A.hi h k);
+    })
+
 -- a band that holds a number has a number in it
 pub holds-band : (A : Interval) (z : ℤ) → Holds A z → IsBand A
 holds-band A z h = record { ordered = omega (arith, ints) }
@@ -165,6 +177,12 @@ pub hull4-holds : (f : ℤ → ℤ → ℤ → ℤ → ℤ) (A B C D : Interval)
 hull4-holds f A B C D x y z w m h k l n =
     (hull4-exact f A B C D (holds-band A x h) (holds-band B y k) (holds-band C z l) (holds-band D w n) m).holds (f x y z w) (x, h, (y, k, (z, l, (w, n, refl))))
 
+pub hull5-holds : (f : ℤ → ℤ → ℤ → ℤ → ℤ → ℤ) (A B C D E : Interval) (x y z w u : ℤ) → IsMonotone5 f →
+    Holds A x → Holds B y → Holds C z → Holds D w → Holds E u → Holds (hull5 f A B C D E) (f x y z w u)
+hull5-holds f A B C D E x y z w u m h k l n o =
+    (hull5-exact f A B C D E (holds-band A x h) (holds-band B y k) (holds-band C z l) (holds-band D w n) (holds-band E u o) m).holds
+    (f x y z w u) (x, h, (y, k, (z, l, (w, n, (u, o, refl)))))
+
 -- the hull over bands has a number in it
 pub hull1-band : (f : ℤ → ℤ) (A : Interval) → IsMonotone1 f → IsBand A → IsBand (hull1 f A)
 hull1-band f A m a = hull-band (IsValue1 f A) (hull1 f A) (hull1-exact f A a m)
@@ -177,6 +195,10 @@ hull3-band f A B C m a b c = hull-band (IsValue3 f A B C) (hull3 f A B C) (hull3
 
 pub hull4-band : (f : ℤ → ℤ → ℤ → ℤ → ℤ) (A B C D : Interval) → IsMonotone4 f → IsBand A → IsBand B → IsBand C → IsBand D → IsBand (hull4 f A B C D)
 hull4-band f A B C D m a b c d = hull-band (IsValue4 f A B C D) (hull4 f A B C D) (hull4-exact f A B C D a b c d m)
+
+pub hull5-band : (f : ℤ → ℤ → ℤ → ℤ → ℤ → ℤ) (A B C D E : Interval) → IsMonotone5 f → IsBand A → IsBand B → IsBand C → IsBand D → IsBand E →
+    IsBand (hull5 f A B C D E)
+hull5-band f A B C D E m a b c d e = hull-band (IsValue5 f A B C D E) (hull5 f A B C D E) (hull5-exact f A B C D E a b c d e m)
 
 -- the hull over narrower bands is narrower
 pub hull1-inside : (f : ℤ → ℤ) (A P : Interval) → IsMonotone1 f → IsBand A → IsInside A P → IsInside (hull1 f A) (hull1 f P)
@@ -202,6 +224,14 @@ hull4-inside f A B C D P Q R S m a b c d i j k l = hull-inside (IsValue4 f A B C
     (hull4-holds f P Q R S v.0 w.0 u.0 t.0 m (inside-holds A P v.0 i v.1) (inside-holds B Q w.0 j w.1) (inside-holds C R u.0 k u.1)
     (inside-holds D S t.0 l t.1)))
 
+pub hull5-inside : (f : ℤ → ℤ → ℤ → ℤ → ℤ → ℤ) (A B C D E P Q R S T : Interval) → IsMonotone5 f → IsBand A → IsBand B → IsBand C → IsBand D → IsBand E →
+    IsInside A P → IsInside B Q → IsInside C R → IsInside D S → IsInside E T → IsInside (hull5 f A B C D E) (hull5 f P Q R S T)
+hull5-inside f A B C D E P Q R S T m a b c d e i j k l n =
+    hull-inside (IsValue5 f A B C D E) (hull5 f A B C D E) (hull5 f P Q R S T) (hull5-exact f A B C D E a b c d e m)
+    (λ z v. let w = v.2 in let u = w.2 in let t = u.2 in let o = t.2 in subst (Holds (hull5 f P Q R S T)) o.2
+    (hull5-holds f P Q R S T v.0 w.0 u.0 t.0 o.0 m (inside-holds A P v.0 i v.1) (inside-holds B Q w.0 j w.1) (inside-holds C R u.0 k u.1)
+    (inside-holds D S t.0 l t.1) (inside-holds E T o.0 n o.1)))
+
 -- the hull over bands of one number each is the value at these
 pub hull1-point : (f : ℤ → ℤ) (x : ℤ) → hull1 f (point x) ≡ point (f x)
 hull1-point f x = join-same (point (f x))
@@ -214,3 +244,6 @@ hull3-point f x y z = join-same (hull2 (f x) (point y) (point z)) ∙ hull2-poin
 
 pub hull4-point : (f : ℤ → ℤ → ℤ → ℤ → ℤ) (x y z w : ℤ) → hull4 f (point x) (point y) (point z) (point w) ≡ point (f x y z w)
 hull4-point f x y z w = join-same (hull3 (f x) (point y) (point z) (point w)) ∙ hull3-point (f x) y z w
+
+pub hull5-point : (f : ℤ → ℤ → ℤ → ℤ → ℤ → ℤ) (x y z w u : ℤ) → hull5 f (point x) (point y) (point z) (point w) (point u) ≡ point (f x y z w u)
+hull5-point f x y z w u = join-same (hull4 (f x) (point y) (point z) (point w) (point u)) ∙ hull4-point (f x) y z w u

@@ -6,4 +6,6 @@ pub mod Division
 pub mod Hulls
 pub mod Mixing
 pub mod Operations
+pub mod Stages
+pub mod Tables
 pub mod Terms

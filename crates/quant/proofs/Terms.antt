@@ -4,13 +4,15 @@ use Rattle.std.proofs.Math.ListN.{get_or-map}
 use Rattle.std.proofs.lemmas.Int.{ints}
 use Rattle.std.specs.Prelude.{slice_index_or}
 use Rattle.quant.specs.Interval.{Interval, Holds, IsBand, IsInside, AllHold, AllInside, AllBands, point, points}
-use Rattle.quant.specs.Hull.{hull1, hull2, hull4}
+use Rattle.quant.specs.Hull.{hull1, hull2, hull4, hull5}
 use Rattle.quant.specs.Rounding.{Rounding}
-use Rattle.quant.specs.Operation.{share, keep, gain, blend, mix, clamp}
-use Rattle.quant.specs.Term.{Term, state, input, number, sum, difference, share_of, rest_of, blend_of, gain_of, mix_of, clamped, value, values, interval, intervals}
-use Rattle.quant.proofs.Hulls.{hull1-holds, hull2-holds, hull4-holds, hull1-band, hull2-band, hull4-band, hull1-inside, hull2-inside, hull4-inside, hull1-point, hull2-point, hull4-point}
+use Rattle.quant.specs.Operation.{share, keep, gain, blend, mix, tray, lookup, clamp}
+use Rattle.quant.specs.Term.{Term, state, input, number, sum, difference, share_of, rest_of, blend_of, gain_of, mix_of, tray_of, lookup_of, clamped, value, values, interval, intervals}
+use Rattle.quant.proofs.Hulls.{hull1-holds, hull2-holds, hull4-holds, hull5-holds, hull1-band, hull2-band, hull4-band, hull5-band, hull1-inside, hull2-inside, hull4-inside, hull5-inside, hull1-point, hull2-point, hull4-point, hull5-point}
 use Rattle.quant.proofs.Operations.{clamp-monotone, sum-monotone, difference-monotone, share-monotone, keep-monotone, gain-monotone, blend-monotone}
 use Rattle.quant.proofs.Mixing.{mix-monotone}
+use Rattle.quant.proofs.Stages.{tray-monotone}
+use Rattle.quant.proofs.Tables.{lookup-monotone}
 
 -- the number at a place lies in the band at this place
 pub place-holds : (As : List Interval) (zs : List ℤ) (n : ℕ) → AllHold As zs →
@@ -70,6 +72,12 @@ interval-holds r states inputs st ins h k (mix_of t u v w) =
     hull4-holds (mix r) _ _ _ _ _ _ _ _ (mix-monotone r)
     (interval-holds r states inputs st ins h k t) (interval-holds r states inputs st ins h k u)
     (interval-holds r states inputs st ins h k v) (interval-holds r states inputs st ins h k w)
+interval-holds r states inputs st ins h k (tray_of holdup slope t u v w z) =
+    hull5-holds (tray r holdup slope) _ _ _ _ _ _ _ _ _ _ (tray-monotone r holdup slope)
+    (interval-holds r states inputs st ins h k t) (interval-holds r states inputs st ins h k u)
+    (interval-holds r states inputs st ins h k v) (interval-holds r states inputs st ins h k w) (interval-holds r states inputs st ins h k z)
+interval-holds r states inputs st ins h k (lookup_of points t) =
+    hull1-holds (lookup r points) _ _ (lookup-monotone r points) (interval-holds r states inputs st ins h k t)
 interval-holds r states inputs st ins h k (clamped limits t) =
     hull1-holds (clamp limits) _ _ (clamp-monotone limits) (interval-holds r states inputs st ins h k t)
 
@@ -95,6 +103,12 @@ interval-band r states inputs h k (gain_of g t) =
 interval-band r states inputs h k (mix_of t u v w) =
     hull4-band (mix r) _ _ _ _ (mix-monotone r) (interval-band r states inputs h k t) (interval-band r states inputs h k u)
     (interval-band r states inputs h k v) (interval-band r states inputs h k w)
+interval-band r states inputs h k (tray_of holdup slope t u v w z) =
+    hull5-band (tray r holdup slope) _ _ _ _ _ (tray-monotone r holdup slope)
+    (interval-band r states inputs h k t) (interval-band r states inputs h k u)
+    (interval-band r states inputs h k v) (interval-band r states inputs h k w) (interval-band r states inputs h k z)
+interval-band r states inputs h k (lookup_of points t) =
+    hull1-band (lookup r points) _ (lookup-monotone r points) (interval-band r states inputs h k t)
 interval-band r states inputs h k (clamped limits t) =
     hull1-band (clamp limits) _ (clamp-monotone limits) (interval-band r states inputs h k t)
 
@@ -129,6 +143,14 @@ interval-inside r states inputs ws wi s i h k (mix_of t u v w) =
     (interval-band r states inputs s i v) (interval-band r states inputs s i w)
     (interval-inside r states inputs ws wi s i h k t) (interval-inside r states inputs ws wi s i h k u)
     (interval-inside r states inputs ws wi s i h k v) (interval-inside r states inputs ws wi s i h k w)
+interval-inside r states inputs ws wi s i h k (tray_of holdup slope t u v w z) =
+    hull5-inside (tray r holdup slope) _ _ _ _ _ _ _ _ _ _ (tray-monotone r holdup slope)
+    (interval-band r states inputs s i t) (interval-band r states inputs s i u)
+    (interval-band r states inputs s i v) (interval-band r states inputs s i w) (interval-band r states inputs s i z)
+    (interval-inside r states inputs ws wi s i h k t) (interval-inside r states inputs ws wi s i h k u)
+    (interval-inside r states inputs ws wi s i h k v) (interval-inside r states inputs ws wi s i h k w) (interval-inside r states inputs ws wi s i h k z)
+interval-inside r states inputs ws wi s i h k (lookup_of points t) =
+    hull1-inside (lookup r points) _ _ (lookup-monotone r points) (interval-band r states inputs s i t) (interval-inside r states inputs ws wi s i h k t)
 interval-inside r states inputs ws wi s i h k (clamped limits t) =
     hull1-inside (clamp limits) _ _ (clamp-monotone limits) (interval-band r states inputs s i t) (interval-inside r states inputs ws wi s i h k t)
 
@@ -144,6 +166,13 @@ at_points4 : (f : ℤ → ℤ → ℤ → ℤ → ℤ) (A B C D : Interval) (x y
 at_points4 f A B C D x y z w e g h k =
     ap (λ X. hull4 f X B C D) e ∙ (ap (λ Y. hull4 f (point x) Y C D) g ∙
     (ap (λ Z. hull4 f (point x) (point y) Z D) h ∙ (ap (hull4 f (point x) (point y) (point z)) k ∙ hull4-point f x y z w)))
+
+at_points5 : (f : ℤ → ℤ → ℤ → ℤ → ℤ → ℤ) (A B C D E : Interval) (x y z w u : ℤ) → A ≡ point x → B ≡ point y → C ≡ point z → D ≡ point w → E ≡ point u →
+    hull5 f A B C D E ≡ point (f x y z w u)
+at_points5 f A B C D E x y z w u e g h k l =
+    ap (λ X. hull5 f X B C D E) e ∙ (ap (λ Y. hull5 f (point x) Y C D E) g ∙
+    (ap (λ Z. hull5 f (point x) (point y) Z D E) h ∙ (ap (λ W. hull5 f (point x) (point y) (point z) W E) k ∙
+    (ap (hull5 f (point x) (point y) (point z) (point w)) l ∙ hull5-point f x y z w u))))
 
 -- a term over bands of one number each is that of the numbers
 pub interval-point : (r : Rounding) (state ins : List ℤ) (t : Term) → interval r (points state) (points ins) t ≡ point (value r state ins t)
@@ -166,6 +195,11 @@ interval-point r st ins (gain_of g t) =
 interval-point r st ins (mix_of t u v w) =
     at_points4 (mix r) _ _ _ _ _ _ _ _
     (interval-point r st ins t) (interval-point r st ins u) (interval-point r st ins v) (interval-point r st ins w)
+interval-point r st ins (tray_of holdup slope t u v w z) =
+    at_points5 (tray r holdup slope) _ _ _ _ _ _ _ _ _ _
+    (interval-point r st ins t) (interval-point r st ins u) (interval-point r st ins v) (interval-point r st ins w) (interval-point r st ins z)
+interval-point r st ins (lookup_of points t) =
+    at_points1 (lookup r points) _ _ (interval-point r st ins t)
 interval-point r st ins (clamped limits t) =
     at_points1 (clamp limits) _ _ (interval-point r st ins t)
 

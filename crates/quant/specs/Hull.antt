@@ -15,6 +15,9 @@ hull3 f A B C = join (hull2 (f A.lo) B C) (hull2 (f A.hi) B C)
 abbrev pub hull4 : (ℤ → ℤ → ℤ → ℤ → ℤ) → Interval → Interval → Interval → Interval → Interval
 hull4 f A B C D = join (hull3 (f A.lo) B C D) (hull3 (f A.hi) B C D)
 
+abbrev pub hull5 : (ℤ → ℤ → ℤ → ℤ → ℤ → ℤ) → Interval → Interval → Interval → Interval → Interval → Interval
+hull5 f A B C D E = join (hull4 (f A.lo) B C D E) (hull4 (f A.hi) B C D E)
+
 -- z is a value of f at numbers of these bands
 abbrev pub IsValue1 : (ℤ → ℤ) → Interval → ℤ → Type 0
 IsValue1 f A z = (a : ℤ) × Holds A a × (f a ≡ z)
@@ -27,6 +30,9 @@ IsValue3 f A B C z = (a : ℤ) × Holds A a × IsValue2 (f a) B C z
 
 abbrev pub IsValue4 : (ℤ → ℤ → ℤ → ℤ → ℤ) → Interval → Interval → Interval → Interval → ℤ → Type 0
 IsValue4 f A B C D z = (a : ℤ) × Holds A a × IsValue3 (f a) B C D z
+
+abbrev pub IsValue5 : (ℤ → ℤ → ℤ → ℤ → ℤ → ℤ) → Interval → Interval → Interval → Interval → Interval → ℤ → Type 0
+IsValue5 f A B C D E z = (a : ℤ) × Holds A a × IsValue4 (f a) B C D E z
 
 -- R is the exact hull of the values: each value lies in it, and each of its ends is a value
 pub record IsHull (IsValue : ℤ → Type 0) (R : Interval) : Type 0 where
@@ -47,3 +53,6 @@ IsMonotone3 f = ((b c : ℤ) → IsMonotone1 (λ a. f a b c)) × ((a : ℤ) → 
 
 abbrev pub IsMonotone4 : (ℤ → ℤ → ℤ → ℤ → ℤ) → Type 0
 IsMonotone4 f = ((b c d : ℤ) → IsMonotone1 (λ a. f a b c d)) × ((a : ℤ) → IsMonotone3 (f a))
+
+abbrev pub IsMonotone5 : (ℤ → ℤ → ℤ → ℤ → ℤ → ℤ) → Type 0
+IsMonotone5 f = ((b c d e : ℤ) → IsMonotone1 (λ a. f a b c d e)) × ((a : ℤ) → IsMonotone4 (f a))

@@ -1,5 +1,5 @@
 -- The operations on numbers that unit equations are made of.
-use Rattle.std.specs.Prelude.{ℤ, pos, ◌+ℤ◌, ◌-ℤ◌, ◌*ℤ◌, int_le, if◌then◌else◌}
+use Rattle.std.specs.Prelude.{ℤ, pos, ◌+ℤ◌, ◌-ℤ◌, ◌*ℤ◌, ◌≤ℤ◌, int_le, if◌then◌else◌, List, [], ◌∷◌}
 use Rattle.std.specs.Int.{int_min, int_max}
 use Rattle.quant.specs.Interval.{Interval}
 use Rattle.quant.specs.Rounding.{Rounding, quotient, divisor}
@@ -44,6 +44,34 @@ mix r c d m n =
     let both = not_negative m +ℤ not_negative n in
     if int_le both (pos 0) then c else quotient r (c *ℤ not_negative m +ℤ d *ℤ not_negative n) both
 
+-- what of a stage's holdup stays where l and v leave it, in millionths
+abbrev pub kept : ℤ → ℤ → ℤ → ℤ → ℤ
+kept holdup slope l v = (holdup *ℤ million -ℤ l *ℤ million) -ℤ v *ℤ slope
+
+-- what a stage of a column holds after a tick: of its holdup H, l came from above at xa, and v from below at yb, while
+-- l left at x and v at x by the slope s, all in one quotient
+unfoldable pub tray : Rounding → ℤ → ℤ → ℤ → ℤ → ℤ → ℤ → ℤ → ℤ
+tray r holdup slope x xa yb l v =
+    quotient r ((x *ℤ kept holdup slope l v +ℤ (xa *ℤ l) *ℤ million) +ℤ (yb *ℤ v) *ℤ million) (holdup *ℤ million)
+
+-- how much of the rise from one point of a table to the next t has passed
+abbrev pub passed : Rounding → ℤ × ℤ → ℤ × ℤ → ℤ → ℤ
+passed r from to t =
+    let gap = divisor (to.0 -ℤ from.0) in
+    quotient r (not_negative (to.1 -ℤ from.1) *ℤ part gap (t -ℤ from.0)) gap
+
+-- the rises of a table that t has passed
+abbrev pub risen : Rounding → List (ℤ × ℤ) → ℤ → ℤ
+risen r [] t = pos 0
+risen r (from ∷ []) t = pos 0
+risen r (from ∷ to ∷ rest) t = passed r from to t +ℤ risen r (to ∷ rest) t
+
+-- The value of a table at t: its first value, and the rises that t has passed. Between two points it is linear, outside it is
+-- the first or the last value.
+unfoldable pub lookup : Rounding → List (ℤ × ℤ) → ℤ → ℤ
+lookup r [] t = pos 0
+lookup r (first ∷ rest) t = first.1 +ℤ risen r (first ∷ rest) t
+
 -- the flows that are mixed: from 0 to 10^13
 abbrev pub flows : Interval
 flows = record { lo = pos 0; hi = pos 10000000000000 }
@@ -51,3 +79,24 @@ flows = record { lo = pos 0; hi = pos 10000000000000 }
 -- the volumes that a blend may have: from 1 to 10^13
 abbrev pub volumes : Interval
 volumes = record { lo = pos 1; hi = pos 10000000000000 }
+
+-- the flows through a stage: from 0 to 10^12
+abbrev pub stage_flows : Interval
+stage_flows = record { lo = pos 0; hi = pos 1000000000000 }
+
+-- the holdups of a stage: from 1 to 10^12
+abbrev pub holdups : Interval
+holdups = record { lo = pos 1; hi = pos 1000000000000 }
+
+-- the slopes of a stage in ppm: from 0 to 10^9
+abbrev pub slopes : Interval
+slopes = record { lo = pos 0; hi = pos 1000000000 }
+
+-- what contents are weighed by: from 0 to 10^18
+abbrev pub weights : Interval
+weights = record { lo = pos 0; hi = pos 1000000000000000000 }
+
+-- no more leaves a stage in a tick than it holds, and no more vapour passes it
+pub record IsDrainable (holdup slope l v : ℤ) : Type 0 where
+  pub leaves : (l *ℤ million +ℤ v *ℤ slope) ≤ℤ (holdup *ℤ million)
+  pub passes : v ≤ℤ holdup

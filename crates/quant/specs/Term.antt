@@ -1,9 +1,9 @@
 -- Unit equations: a term is written once and read twice, on numbers and on bands.
 use Rattle.std.specs.Prelude.{ℕ, ℤ, pos, ◌+ℤ◌, ◌-ℤ◌, List, map, slice_index_or}
 use Rattle.quant.specs.Interval.{Interval, point}
-use Rattle.quant.specs.Hull.{hull1, hull2, hull4}
+use Rattle.quant.specs.Hull.{hull1, hull2, hull4, hull5}
 use Rattle.quant.specs.Rounding.{Rounding}
-use Rattle.quant.specs.Operation.{share, keep, gain, blend, mix, clamp}
+use Rattle.quant.specs.Operation.{share, keep, gain, blend, mix, tray, lookup, clamp}
 
 -- what stands on the right of a unit's equation
 pub data Term : Type 0 where
@@ -18,6 +18,10 @@ pub data Term : Type 0 where
   -- by a parameter k
   gain_of : ℤ → Term → Term
   mix_of : Term → Term → Term → Term → Term
+  -- by a holdup and a slope
+  tray_of : ℤ → ℤ → Term → Term → Term → Term → Term → Term
+  -- by the points of a table
+  lookup_of : List (ℤ × ℤ) → Term → Term
   clamped : Interval → Term → Term
 
 -- the term on numbers
@@ -32,6 +36,9 @@ value r states inputs (rest_of t u) = keep r (value r states inputs t) (value r 
 value r states inputs (blend_of t u v w) = blend r (value r states inputs t) (value r states inputs u) (value r states inputs v) (value r states inputs w)
 value r states inputs (gain_of k t) = gain r k (value r states inputs t)
 value r states inputs (mix_of t u v w) = mix r (value r states inputs t) (value r states inputs u) (value r states inputs v) (value r states inputs w)
+value r states inputs (tray_of holdup slope t u v w z) =
+    tray r holdup slope (value r states inputs t) (value r states inputs u) (value r states inputs v) (value r states inputs w) (value r states inputs z)
+value r states inputs (lookup_of points t) = lookup r points (value r states inputs t)
 value r states inputs (clamped limits t) = clamp limits (value r states inputs t)
 
 -- the term on bands: the same line, each operation by its hull
@@ -46,6 +53,9 @@ interval r states inputs (rest_of t u) = hull2 (keep r) (interval r states input
 interval r states inputs (blend_of t u v w) = hull4 (blend r) (interval r states inputs t) (interval r states inputs u) (interval r states inputs v) (interval r states inputs w)
 interval r states inputs (gain_of k t) = hull1 (gain r k) (interval r states inputs t)
 interval r states inputs (mix_of t u v w) = hull4 (mix r) (interval r states inputs t) (interval r states inputs u) (interval r states inputs v) (interval r states inputs w)
+interval r states inputs (tray_of holdup slope t u v w z) =
+    hull5 (tray r holdup slope) (interval r states inputs t) (interval r states inputs u) (interval r states inputs v) (interval r states inputs w) (interval r states inputs z)
+interval r states inputs (lookup_of points t) = hull1 (lookup r points) (interval r states inputs t)
 interval r states inputs (clamped limits t) = hull1 (clamp limits) (interval r states inputs t)
 
 -- each term of a list

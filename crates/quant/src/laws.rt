@@ -1,8 +1,8 @@
 ghost use Rattle.std.specs.Prelude.{◌≡◌, ℤ, ◌+ℤ◌, ◌-ℤ◌, List};
 ghost use Rattle.quant.specs.Interval.{Interval, AllHold, AllInside, AllBands, points};
-ghost use Rattle.quant.specs.Hull.{IsMonotone1, IsMonotone2, IsMonotone4};
+ghost use Rattle.quant.specs.Hull.{IsMonotone1, IsMonotone2, IsMonotone4, IsMonotone5};
 ghost use Rattle.quant.specs.Rounding.{Rounding};
-ghost use Rattle.quant.specs.Operation.{share, keep, gain, blend, mix, clamp};
+ghost use Rattle.quant.specs.Operation.{share, keep, gain, blend, mix, tray, lookup, clamp};
 ghost use Rattle.quant.specs.Term.{Term, values, intervals};
 
 /// Each operation rises or falls in each argument with the others held, whatever the rounding: so
@@ -15,6 +15,8 @@ pub fn operations_are_monotone()
     ensures gain { (r : Rounding) (k : ℤ) → IsMonotone1 (gain r k) }
     ensures blend { (r : Rounding) → IsMonotone4 (blend r) }
     ensures mix { (r : Rounding) → IsMonotone4 (mix r) }
+    ensures tray { (r : Rounding) (holdup slope : ℤ) → IsMonotone5 (tray r holdup slope) }
+    ensures lookup { (r : Rounding) (points : List (ℤ × ℤ)) → IsMonotone1 (lookup r points) }
     ensures clamp { (limits : Interval) → IsMonotone1 (clamp limits) }
 {}
 

@@ -4,25 +4,35 @@
 mod band;
 mod blends;
 mod gains;
+mod instant;
 mod kind;
 mod laws;
 mod limits;
+mod lookups;
 mod mixes;
+mod place;
 mod quotients;
+mod rate_table;
 mod shares;
 mod sums;
 mod text;
+mod trays;
 
 pub use band::{Band, clamp, clamp_band};
 pub use blends::{blend, blend_band};
 pub use gains::{gain, gain_band};
+pub use instant::Instant;
 pub use kind::Kind;
 pub use laws::{operations_are_monotone, terms_at_points, terms_include, terms_narrow};
 pub use limits::Limits;
+pub use lookups::{lookup, lookup_band};
 pub use mixes::{mix, mix_band};
+pub use place::Place;
+pub use rate_table::RateTable;
 pub use shares::{MILLION, keep, keep_band, share, share_band};
 pub use sums::{add, add_band, sub, sub_band};
 pub use text::Text;
+pub use trays::{tray, tray_band};
 
 #[cfg(test)]
 mod tests;

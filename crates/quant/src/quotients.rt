@@ -1,4 +1,4 @@
-ghost use Rattle.std.specs.Prelude.{◌≡◌, pos, ◌≤ℤ◌, FitsSigned};
+ghost use Rattle.std.specs.Prelude.{◌≡◌, pos, ◌*ℤ◌, ◌≤ℤ◌, FitsSigned};
 ghost use Rattle.std.specs.Int.{w64};
 ghost use Rattle.quant.specs.Rounding.{quotient, Floor};
 
@@ -12,4 +12,11 @@ pub fn floor_quotient(a: i128, b: i64) -> i64
         Ok(small) => small.div_euclid(b),
         Err(_) => a.div_euclid(i128::from(b)) as i64,
     }
+}
+
+/// `a` times `b`, which 128 bits always hold.
+pub fn product(a: i64, b: i64) -> i128
+    ensures { result ≡ a *ℤ b }
+{
+    i128::from(a) * i128::from(b)
 }

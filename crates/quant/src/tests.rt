@@ -67,6 +67,74 @@ fn blends_weigh_by_volume(rt: HostRuntime) {
 }
 
 #[test]
+fn trays_weigh_by_flow(rt: HostRuntime) {
+    const FAR: i64 = 1_000_000_000_000;
+    let rows = [
+        (tray(40, 10, 90, 100, 100, 150, 500_000), 66),
+        (tray(40, 10, 90, 100, 100, 200, 500_000), 60),
+        // its products have more than 64 bits
+        (tray(FAR, FAR, FAR, 0, 0, FAR, 1_000_000), FAR),
+        (tray(600, 600, 480, 100, 200, 5_000, 800_000), 600),
+    ];
+    for (got, want) in rows {
+        assert_eq!(rt; got, want);
+    }
+}
+
+/// A table that rises from 0 to half.
+const POINTS: [(i64, i64); 3] = [(300_000, 0), (350_000, 100_000), (400_000, 500_000)];
+
+#[test]
+fn tables_are_linear_between_points(rt: HostRuntime) -> Result<(), Fail> {
+    let table = RateTable::new(POINTS.as_slice().to_vec(rt.alloc())?).expect(
+        &rt,
+        "its points rise",
+    );
+    let rows = [
+        (350_000, 100_000),
+        (325_000, 50_000),
+        (375_001, 300_008),
+        (299_999, 0),
+        (400_001, 500_000),
+        (i64::MIN, 0),
+        (i64::MAX, 500_000),
+    ];
+    for (temp, want) in rows {
+        assert_eq!(rt; lookup(&table, temp), want);
+    }
+    let band = lookup_band(
+        &table,
+        Band {
+            lo: 325_000,
+            hi: 375_001,
+        },
+    );
+    assert_eq!(rt; (band.lo, band.hi), (50_000, 300_008));
+    Ok(())
+}
+
+#[test]
+fn tables_have_rising_points(rt: HostRuntime) -> Result<(), Fail> {
+    const FAR: i64 = 1_000_000_000_000;
+    let rows: [([(i64, i64); 2], bool); 8] = [
+        ([(-FAR, 0), (FAR, MILLION)], true),
+        ([(1, 5), (2, 5)], true),
+        ([(1, 5), (1, 5)], false),
+        ([(2, 5), (1, 6)], false),
+        ([(1, 5), (2, 4)], false),
+        ([(-FAR - 1, 0), (0, 0)], false),
+        ([(0, 0), (FAR + 1, 0)], false),
+        ([(0, 0), (1, MILLION + 1)], false),
+    ];
+    for (points, want) in rows {
+        let table = RateTable::new(points.as_slice().to_vec(rt.alloc())?);
+        assert_eq!(rt; table.is_some(), want);
+    }
+    assert!(rt; RateTable::new(Vec::new(rt.alloc())).is_none());
+    Ok(())
+}
+
+#[test]
 fn sums_and_clamps_reach_their_ends(rt: HostRuntime) {
     const FAR: i64 = 4_000_000_000_000_000_000;
     let limits = Band { lo: 10, hi: 20 };
@@ -108,6 +176,19 @@ fn bands_are_exact_hulls(rt: HostRuntime) {
         (add_band(low, high), 6, 11),
         (sub_band(low, high), -8, -3),
         (clamp_band(Band { lo: 0, hi: 100 }, volume), 10, 20),
+        (
+            tray_band(
+                Band::point(40),
+                Band::point(10),
+                Band::point(90),
+                Band { lo: 0, hi: 100 },
+                Band { lo: 0, hi: 100 },
+                200,
+                500_000,
+            ),
+            25,
+            75,
+        ),
     ];
     for (got, lo, hi) in rows {
         assert_eq!(rt; (got.lo, got.hi), (lo, hi));

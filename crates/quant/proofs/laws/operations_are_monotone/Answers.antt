@@ -1,6 +1,8 @@
 -- Each law is a lemma on the operation.
 use Rattle.quant.proofs.Operations.{clamp-monotone, sum-monotone, difference-monotone, share-monotone, keep-monotone, gain-monotone, blend-monotone}
 use Rattle.quant.proofs.Mixing.{mix-monotone}
+use Rattle.quant.proofs.Tables.{lookup-monotone}
+use Rattle.quant.proofs.Stages.{tray-monotone}
 use Rattle.quant.proofs.laws.operations_are_monotone.Goals as goal
 
 pub returns-clause-add : goal.returns-clause-add
@@ -23,6 +25,12 @@ returns-clause-blend c = blend-monotone
 
 pub returns-clause-mix : goal.returns-clause-mix
 returns-clause-mix c = mix-monotone
+
+pub returns-clause-tray : goal.returns-clause-tray
+returns-clause-tray c = tray-monotone
+
+pub returns-clause-lookup : goal.returns-clause-lookup
+returns-clause-lookup c = lookup-monotone
 
 pub returns-clause-clamp : goal.returns-clause-clamp
 returns-clause-clamp c = clamp-monotone
