@@ -1,1 +1,3 @@
+pub mod Mixers
+pub mod Reactors
 pub mod Tanks

@@ -1,0 +1,27 @@
+-- The outputs are written one after another.
+use Rattle.std.proofs.Common.{ℤ, pos, FitsSigned, rules, [], ◌∷◌, refl, ◌∙◌}
+use Rattle.std.proofs.lemmas.Int.{to_z-of_z}
+use Rattle.std.specs.Int.{w64}
+use Rattle.std.specs.Prelude.{slice_index_or}
+use Rattle.quant.specs.Operation.{clamp}
+use Rattle.quant.proofs.Calls.{filled, same_cons, given1}
+use Rattle.basic_units.proofs.reactor.ReactorKind.view_point.Goals as goal
+
+pub returns : goal.returns
+returns c =
+    let state = c.args.state.now in
+    let volume : ℤ = slice_index_or state 0 (pos 0) in
+    let flow : ℤ = slice_index_or state 1 (pos 0) in
+    let conc : ℤ = slice_index_or state 2 (pos 0) in
+    let temp : ℤ = slice_index_or state 3 (pos 0) in
+    let v : FitsSigned w64 volume = search rules in
+    let f : FitsSigned w64 flow = search rules in
+    let d : FitsSigned w64 conc = search rules in
+    let t : FitsSigned w64 temp = search rules in
+    let r : FitsSigned w64 c.clamp.result = search rules in
+    filled c.args.outs.now (_ ∷ _ ∷ _ ∷ _ ∷ _ ∷ []) c.requires.room
+    ∙ same_cons _ _ _ _ (to_z-of_z w64 flow f)
+    (same_cons _ _ _ _ (to_z-of_z w64 conc d)
+    (same_cons _ _ _ _ (to_z-of_z w64 temp t)
+    (same_cons _ _ _ _ (given1 (clamp c.args.self.now.limits.signal) _ c.clamp.result volume r c.clamp.ensures.value (to_z-of_z w64 volume v))
+    (same_cons _ _ _ _ (given1 (clamp c.args.self.now.limits.signal) _ c.clamp-2.result temp (search rules) c.clamp-2.ensures.value (to_z-of_z w64 temp t)) refl))))
