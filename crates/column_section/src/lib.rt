@@ -1,0 +1,9 @@
+//! A section of a distillation column.
+#![tactic(auto)]
+
+mod column;
+
+pub use column::Column;
+
+#[cfg(test)]
+mod tests;
