@@ -1,0 +1,6 @@
+pub mod Paths
+pub mod Pigeons
+pub mod Maxima
+pub mod Ascents
+pub mod Searches
+pub mod Found
