@@ -1,0 +1,140 @@
+-- The ranges of what a plant file says.
+use Rattle.std.specs.Prelude.{◌≡◌, ◌≤◌, ℕ, ℤ, pos, true, List, length, IfSome}
+use Rattle.std.specs.List.{AllByRecursion}
+use Rattle.quant.specs.Interval.{Interval, Holds, IsBand, IsInside, wide, around}
+use Rattle.quant.specs.Operation.{million}
+use Rattle.quant.specs.declared.limits.Limits.{Limits}
+use Rattle.parts.specs.declared.feeds.Piece.{Piece}
+use Rattle.parts.specs.declared.feeds.FeedBand.{FeedBand}
+use Rattle.parts.specs.declared.feeds.FeedBand.TheVariants as feed_band
+use Rattle.parts.specs.declared.feeds.FeedKind.{FeedKind}
+use Rattle.parts.specs.declared.feeds.FeedKind.TheVariants as feed_kind
+use Rattle.parts.specs.declared.feeds.FeedPart.{FeedPart}
+use Rattle.parts.specs.declared.units.KindPart.{KindPart}
+use Rattle.parts.specs.declared.units.KindPart.TheVariants as kind
+use Rattle.parts.specs.declared.units.OwnLimits.{OwnLimits}
+use Rattle.parts.specs.declared.units.UnitPart.{UnitPart}
+use Rattle.parts.specs.declared.parts.Widths.{Widths}
+use Rattle.parts.specs.Name.{is_name, is_reference}
+use Rattle.parts.specs.Parts.{FileParts}
+
+-- the whole numbers from lo to hi, both not negative; and the numbers from 0 to one million
+abbrev pub from_to : ℕ → ℕ → Interval
+from_to lo hi = record { lo = pos lo; hi = pos hi }
+
+abbrev pub ppm : Interval
+ppm = record { lo = pos 0; hi = million }
+
+-- the numbers that a gain may be, and the greatest tick of a piece
+abbrev pub gains : Interval
+gains = around 1000000000
+
+abbrev pub last_piece : ℕ
+last_piece = 1000000000
+
+-- a band of wide numbers
+abbrev pub IsWide : Interval → Type 0
+IsWide band = IsBand band × IsInside band wide
+
+abbrev pub IsName : List ℕ → Type 0
+IsName bytes = is_name bytes ≡ true
+
+abbrev pub IsReference : List ℕ → Type 0
+IsReference bytes = is_reference bytes ≡ true
+
+abbrev pub IsPiece : Piece → Type 0
+IsPiece piece = (piece.tick ≤ last_piece) × IsWide piece.band
+
+abbrev pub ArePieces : List Piece → Type 0
+ArePieces pieces = (1 ≤ length pieces) × (length pieces ≤ 1000) × AllByRecursion IsPiece pieces
+
+abbrev pub IsFeedBand : FeedBand → Type 0
+IsFeedBand (feed_band.Constant band) = IsWide band
+IsFeedBand (feed_band.Pieces pieces) = ArePieces pieces
+
+abbrev pub IsFeedKind : FeedKind → Type 0
+IsFeedKind (feed_kind.Material flow conc temp) = IsFeedBand flow × IsFeedBand conc × IsFeedBand temp
+IsFeedKind (feed_kind.Signal value) = IsFeedBand value
+
+pub record IsFeedPart (feed : FeedPart) : Type 0 where
+  pub name : IsName feed.name
+  pub kind : IsFeedKind feed.kind
+
+-- a point of a rate table, and the table's points
+abbrev pub IsRatePoint : ℤ × ℤ → Type 0
+IsRatePoint point = Holds wide point.0 × Holds ppm point.1
+
+abbrev pub AreRatePoints : List (ℤ × ℤ) → Type 0
+AreRatePoints points = (1 ≤ length points) × (length points ≤ 64) × AllByRecursion IsRatePoint points
+
+-- the opening bands of what a tank or a reactor holds
+abbrev pub AreContents : Interval → Interval → Interval → Interval → Type 0
+AreContents volume flow conc temp = IsWide volume × IsWide flow × IsWide conc × IsWide temp
+
+-- what a mixer reads
+abbrev pub AreInputs : List (List ℕ) → Type 0
+AreInputs inputs = (2 ≤ length inputs) × (length inputs ≤ 8) × AllByRecursion IsReference inputs
+
+-- what a column starts from
+abbrev pub AreColumnBands : Interval → Interval → Interval → Interval → Interval → Type 0
+AreColumnBands x liquid_flow liquid_temp vapour_flow vapour_temp =
+    IsWide x × IsWide liquid_flow × IsWide liquid_temp × IsWide vapour_flow × IsWide vapour_temp
+
+abbrev pub IsKindPart : KindPart → Type 0
+IsKindPart (kind.Tank input valve k volume flow conc temp) =
+    IsReference input × IsReference valve × Holds ppm k × AreContents volume flow conc temp
+IsKindPart (kind.Reactor input valve jacket k rate heat ua volume flow conc temp) =
+    IsReference input × IsReference valve × IsReference jacket × Holds ppm k × AreRatePoints rate × Holds gains heat
+    × Holds ppm ua × AreContents volume flow conc temp
+IsKindPart (kind.Column liquid vapour stages holdup slope x liquid_flow liquid_temp vapour_flow vapour_temp) =
+    IsReference liquid × IsReference vapour × (1 ≤ stages) × (stages ≤ 64) × Holds (from_to 1 1000000000000) holdup
+    × Holds (from_to 0 1000000000) slope × AreColumnBands x liquid_flow liquid_temp vapour_flow vapour_temp
+IsKindPart (kind.Controller set measured kp ki bias integral_limits integral out) =
+    IsReference set × IsReference measured × Holds gains kp × Holds gains ki × Holds wide bias × IsWide integral_limits
+    × IsWide integral × IsWide out
+IsKindPart (kind.Mixer input) = AreInputs input
+IsKindPart (kind.Splitter input share) = IsReference input × Holds ppm share
+
+pub record AreOwnLimits (limits : OwnLimits) : Type 0 where
+  pub flow : IfSome limits.flow IsWide
+  pub conc : IfSome limits.conc IsWide
+  pub temp : IfSome limits.temp IsWide
+  pub volume : IfSome limits.volume IsWide
+  pub signal : IfSome limits.signal IsWide
+
+pub record IsUnitPart (unit : UnitPart) : Type 0 where
+  pub name : IsName unit.name
+  pub kind : IsKindPart unit.kind
+  pub limits : AreOwnLimits unit.limits
+
+pub record AreWideLimits (limits : Limits) : Type 0 where
+  pub flow : IsWide limits.flow
+  pub conc : IsWide limits.conc
+  pub temp : IsWide limits.temp
+  pub volume : IsWide limits.volume
+  pub signal : IsWide limits.signal
+
+-- a width that may be asked for
+abbrev pub widths : Interval
+widths = from_to 0 2000000000000
+
+pub record AreWidths (width : Widths) : Type 0 where
+  pub flow : IfSome width.flow (Holds widths)
+  pub conc : IfSome width.conc (Holds widths)
+  pub temp : IfSome width.temp (Holds widths)
+  pub signal : IfSome width.signal (Holds widths)
+
+-- the feeds and the units: at most 256 of each, and a unit at least
+abbrev pub AreFeeds : List FeedPart → Type 0
+AreFeeds feeds = (length feeds ≤ 256) × AllByRecursion IsFeedPart feeds
+
+abbrev pub AreUnits : List UnitPart → Type 0
+AreUnits units = (1 ≤ length units) × (length units ≤ 256) × AllByRecursion IsUnitPart units
+
+pub record AreInRange (parts : FileParts) : Type 0 where
+  pub ticks : (1 ≤ parts.ticks) × (parts.ticks ≤ 100000)
+  pub window : (1 ≤ parts.window) × (parts.window ≤ 64)
+  pub limits : AreWideLimits parts.limits
+  pub width : AreWidths parts.width
+  pub feeds : AreFeeds parts.feeds
+  pub units : AreUnits parts.units

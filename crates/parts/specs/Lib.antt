@@ -1,0 +1,4 @@
+pub mod Name
+pub mod Parts
+pub mod InRange
+pub mod Given

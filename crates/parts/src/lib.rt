@@ -1,0 +1,14 @@
+//! What a plant file says: the ticks, limits and widths, the feeds and the units, each number in its range.
+#![tactic(auto)]
+
+mod feeds;
+mod lists;
+mod names;
+mod parts;
+mod units;
+
+pub use feeds::{FeedBand, FeedKind, FeedPart, Piece};
+pub use lists::{FeedParts, Pieces, RatePoints, Texts, UnitParts};
+pub use names::{is_name, is_reference};
+pub use parts::{Parts, Widths};
+pub use units::{KindPart, OwnLimits, UnitPart};
