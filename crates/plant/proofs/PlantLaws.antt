@@ -1,0 +1,71 @@
+-- What the checks of a plant's parts give, and what a plant's parts are.
+use Rattle.std.proofs.Common.{◌≡◌, ◌<◌, ℕ, suc, Ok, length, [], slice_index_or, refl}
+use Rattle.quant.specs.Interval.{AllInside}
+use Rattle.flowsheet.specs.Plant.{IsRanked}
+use Rattle.flowsheet.specs.Limited.{AreBands, IsLimited}
+use Rattle.parts.specs.Parts.{FileParts}
+use Rattle.parts.specs.InRange.{AreInRange}
+use Rattle.parts.specs.Given.{given_bands}
+use Rattle.plant.specs.Streams.{streams_of}
+use Rattle.plant.specs.Units.{units_of, source_at, plant_of, carried_of}
+use Rattle.plant.specs.Building.{Checked, checked}
+use Rattle.plant.specs.Verdict.{IsVerdict}
+use Rattle.plant.specs.Rows.{RowBands, all_limits, opening_row, IsStep, HasStatesOf, HasFeedsOf, HasStreamsOf}
+use Rattle.plant.specs.Sound.{ArePartsSound, AreSoundFrom, IsSource, IsPlant}
+use Rattle.plant.proofs.Passed.{ArePassed, are-passed}
+use Rattle.plant.proofs.OwnLimits.{stream-limits}
+use Rattle.plant.proofs.Numbers.{feeds-first, feeds-there}
+use Rattle.plant.proofs.Sources.{by-source, length-units_of}
+use Rattle.plant.proofs.UnitLaws.{units-sound}
+use Rattle.plant.proofs.UnitLinks.{units-linked}
+use Rattle.plant.proofs.Feeds.{given-inside}
+use Rattle.plant.proofs.Sheets.{all-bands, all-limited, all-ranked}
+use Rattle.plant.proofs.Ticks.{next-streams, next-states}
+use Rattle.plant.proofs.Verdicts.{one-verdict}
+
+pub parts-sound : (parts : FileParts) → AreInRange parts → checked parts ≡ Ok tt → ArePartsSound parts
+parts-sound parts ranges passes =
+    let p : ArePassed parts = are-passed parts passes in
+    let units : AreSoundFrom parts 0 (units_of parts) = units-sound parts ranges p in
+    let sources : (s : ℕ) → s < length (streams_of parts) → IsSource parts s (source_at parts s)
+    = by-source parts (IsSource parts) (λ f l. (refl, l)) (λ u p l k. (l, k, refl)) in
+    record {
+      units = units;
+      counted = length-units_of parts;
+      feeds = feeds-first parts;
+      feeds_counted = feeds-there parts;
+      sources = sources;
+      limits = λ s l. stream-limits parts (source_at parts s) ranges p;
+      links = units-linked parts ranges sources units;
+    }
+
+pub verdict-unique : (parts : FileParts) (one other : Checked) → IsVerdict parts one → IsVerdict parts other → one ≡ other
+verdict-unique = one-verdict
+
+-- the parts of a plant are sound
+pub plant-sound : (parts : FileParts) → IsPlant parts → ArePartsSound parts
+plant-sound parts plant = parts-sound parts plant.ranges plant.passes
+
+pub parts-ranked : (parts : FileParts) → IsPlant parts → IsRanked (plant_of parts)
+parts-ranked parts plant = all-ranked parts (plant-sound parts plant) plant.ranked
+
+pub parts-limited : (parts : FileParts) → IsPlant parts → IsLimited (plant_of parts) (carried_of parts)
+parts-limited parts plant = all-limited parts (plant-sound parts plant)
+
+pub parts-bands : (parts : FileParts) → IsPlant parts → AreBands (carried_of parts) (given_bands parts)
+parts-bands parts plant = all-bands parts plant.ranges (plant-sound parts plant)
+
+pub parts-fed : (parts : FileParts) → IsPlant parts →
+    (tick f : ℕ) → f < length parts.feeds → AllInside (given_bands parts tick f) (slice_index_or (all_limits parts) f [])
+parts-fed parts plant tick f l = given-inside parts plant.ranges (are-passed parts plant.passes) tick f l
+
+pub opening-states : (parts : FileParts) → IsPlant parts → HasStatesOf parts 0 (opening_row parts)
+opening-states parts plant u l = refl
+
+pub step-streams : (parts : FileParts) (tick : ℕ) (before after : RowBands) → IsPlant parts →
+    HasStatesOf parts tick before → HasFeedsOf parts tick before → IsStep parts before after → HasStreamsOf parts tick after
+step-streams parts tick before after plant = next-streams parts tick before after (parts-ranked parts plant)
+
+pub step-states : (parts : FileParts) (tick : ℕ) (before after : RowBands) → IsPlant parts →
+    HasStatesOf parts tick before → HasFeedsOf parts tick before → IsStep parts before after → HasStatesOf parts (suc tick) after
+step-states parts tick before after plant = next-states parts tick before after (parts-ranked parts plant)

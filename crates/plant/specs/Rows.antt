@@ -1,0 +1,67 @@
+-- A row: the bands of a plant at one tick.
+use Rattle.std.specs.Prelude.{◌≡◌, ℕ, ◌<◌, List, [], length, map, slice_index_or, slice_set}
+use Rattle.quant.specs.Interval.{Interval, AllInside}
+use Rattle.flowsheet.specs.Plant.{unit_at}
+use Rattle.flowsheet.specs.Reading.{on_bands, inputs_of, stepped}
+use Rattle.flowsheet.specs.Run.{streams_at, run_states, run_streams}
+use Rattle.parts.specs.Parts.{FileParts}
+use Rattle.parts.specs.Given.{given_bands}
+use Rattle.plant.specs.Streams.{streams_of}
+use Rattle.plant.specs.Units.{units_of, opening_of, plant_of, carried_of, stream_limits}
+
+-- the bands of each unit's states, and of each stream's channels
+pub record RowBands : Type 0 where
+  pub states : List (List Interval)
+  pub streams : List (List Interval)
+
+abbrev pub states_in : RowBands → ℕ → List Interval
+states_in row u = slice_index_or row.states u []
+
+abbrev pub stream_in : RowBands → ℕ → List Interval
+stream_in row s = slice_index_or row.streams s []
+
+-- the row with another band in one channel of a stream
+abbrev pub set_band : RowBands → ℕ → ℕ → Interval → RowBands
+set_band row s c band = record { states = row.states; streams = slice_set row.streams s (slice_set (stream_in row s) c band) }
+
+-- the limits of each stream's channels
+abbrev pub all_limits : FileParts → List (List Interval)
+all_limits parts = map (stream_limits parts) (streams_of parts)
+
+-- A row of the plant: a band for each state and each channel. The states and the feeds are inside their limits.
+pub record IsRow (parts : FileParts) (row : RowBands) : Type 0 where
+  pub counted : length row.states ≡ length (units_of parts)
+  pub streams_counted : length row.streams ≡ length (streams_of parts)
+  pub channels : (s : ℕ) → s < length (streams_of parts) → length (stream_in row s) ≡ length (slice_index_or (all_limits parts) s [])
+  pub states : (u : ℕ) → u < length (units_of parts) → AllInside (states_in row u) (unit_at (plant_of parts) u).state_limits
+  pub feeds : (f : ℕ) → f < length parts.feeds → AllInside (stream_in row f) (slice_index_or (all_limits parts) f [])
+
+-- the row of the opening bands, in which each stream stands at its limits
+abbrev pub opening_row : FileParts → RowBands
+opening_row parts = record { states = map opening_of (units_of parts); streams = all_limits parts }
+
+-- One tick of the interval run: each stream at this tick, from the feeds and the states in the row before, and each state at
+-- the next tick.
+pub record IsStep (parts : FileParts) (before after : RowBands) : Type 0 where
+  pub streams : (s : ℕ) → s < length (streams_of parts) →
+      stream_in after s ≡ streams_at (on_bands (plant_of parts)) (plant_of parts) (stream_in before) (states_in before) s
+  pub states : (u : ℕ) → u < length (units_of parts) →
+      states_in after u ≡ stepped (on_bands (plant_of parts)) (unit_at (plant_of parts) u) (states_in before u)
+      (inputs_of (unit_at (plant_of parts) u) (streams_at (on_bands (plant_of parts)) (plant_of parts) (stream_in before) (states_in before)))
+
+-- the interval run of the parts: the bands of each unit's states and of each stream at a tick
+abbrev pub states_of_run : FileParts → ℕ → ℕ → List Interval
+states_of_run parts = run_states (on_bands (plant_of parts)) (plant_of parts) (carried_of parts) (given_bands parts)
+
+abbrev pub streams_of_run : FileParts → ℕ → ℕ → List Interval
+streams_of_run parts = run_streams (on_bands (plant_of parts)) (plant_of parts) (carried_of parts) (given_bands parts)
+
+-- the row's states are the run's at this tick, and its feeds the given bands
+abbrev pub HasStatesOf : FileParts → ℕ → RowBands → Type 0
+HasStatesOf parts tick row = (u : ℕ) → u < length (units_of parts) → states_in row u ≡ states_of_run parts tick u
+
+abbrev pub HasFeedsOf : FileParts → ℕ → RowBands → Type 0
+HasFeedsOf parts tick row = (f : ℕ) → f < length parts.feeds → stream_in row f ≡ given_bands parts tick f
+
+abbrev pub HasStreamsOf : FileParts → ℕ → RowBands → Type 0
+HasStreamsOf parts tick row = (s : ℕ) → s < length (streams_of parts) → stream_in row s ≡ streams_of_run parts tick s

@@ -1,0 +1,42 @@
+ghost use Rattle.std.specs.Prelude.{◌≡◌, ◌<◌, ℕ, suc, Ok, length, [], slice_index_or};
+ghost use Rattle.quant.specs.Interval.{AllInside};
+ghost use Rattle.flowsheet.specs.Plant.{IsRanked};
+ghost use Rattle.flowsheet.specs.Limited.{AreBands, IsLimited};
+ghost use Rattle.parts.specs.Parts.{FileParts};
+ghost use Rattle.parts.specs.InRange.{AreInRange};
+ghost use Rattle.parts.specs.Given.{given_bands};
+ghost use Rattle.plant.specs.Building.{Checked, checked};
+ghost use Rattle.plant.specs.Verdict.{IsVerdict};
+ghost use Rattle.plant.specs.Units.{plant_of, carried_of};
+ghost use Rattle.plant.specs.Rows.{RowBands, opening_row, all_limits, IsStep, HasStatesOf, HasFeedsOf, HasStreamsOf};
+ghost use Rattle.plant.specs.Sound.{ArePartsSound, IsPlant};
+
+/// In parts that pass the checks each unit meets what its steps ask for.
+pub fn checked_parts_are_sound()
+    ensures { (parts : FileParts) → AreInRange parts → checked parts ≡ Ok tt → ArePartsSound parts }
+{}
+
+/// There is one verdict on parts at most.
+pub fn verdicts_are_unique()
+    ensures { (parts : FileParts) (one other : Checked) → IsVerdict parts one → IsVerdict parts other → one ≡ other }
+{}
+
+/// The parts of a built plant are a plant of the definitions: its ranks are right, its units keep their limits, and its feeds are
+/// bands inside theirs.
+pub fn built_plants_are_plants()
+    ensures ranked { (parts : FileParts) → IsPlant parts → IsRanked (plant_of parts) }
+    ensures limited { (parts : FileParts) → IsPlant parts → IsLimited (plant_of parts) (carried_of parts) }
+    ensures bands { (parts : FileParts) → IsPlant parts → AreBands (carried_of parts) (given_bands parts) }
+    ensures fed { (parts : FileParts) → IsPlant parts →
+        (tick f : ℕ) → f < length parts.feeds → AllInside (given_bands parts tick f) (slice_index_or (all_limits parts) f []) }
+{}
+
+/// Steps that begin with the opening states, each from the bands that are given at its tick, make the interval run.
+pub fn direct_steps_make_the_run()
+    ensures opening { (parts : FileParts) → IsPlant parts → HasStatesOf parts 0 (opening_row parts) }
+    ensures streams { (parts : FileParts) (tick : ℕ) (before after : RowBands) → IsPlant parts →
+        HasStatesOf parts tick before → HasFeedsOf parts tick before → IsStep parts before after → HasStreamsOf parts tick after }
+    ensures states { (parts : FileParts) (tick : ℕ) (before after : RowBands) → IsPlant parts →
+        HasStatesOf parts tick before → HasFeedsOf parts tick before → IsStep parts before after →
+        HasStatesOf parts (suc tick) after }
+{}

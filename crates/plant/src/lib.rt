@@ -1,0 +1,27 @@
+//! Plants: the streams and the units that a plant file says, and their interval run tick by tick.
+#![tactic(auto)]
+
+mod build;
+mod fault;
+mod given;
+mod laws;
+mod limits;
+mod opening;
+mod plant;
+mod rows;
+mod steps;
+mod streams;
+mod units;
+
+pub use fault::{PlantFault, Unbuilt};
+pub use laws::{
+    built_plants_are_plants, checked_parts_are_sound, direct_steps_make_the_run,
+    verdicts_are_unique,
+};
+pub use plant::Plant;
+pub use rows::Row;
+pub use streams::{Stream, StreamSource};
+pub use units::{Bands, StreamNumbers, Unit};
+
+#[cfg(test)]
+mod build_tests;
