@@ -1,1 +1,4 @@
-pub mod Readers
+pub mod Keys
+pub mod Lists
+pub mod Loop
+pub mod Tree

@@ -1,3 +1,6 @@
 pub mod Read
-pub mod Tree
-pub mod OneTank
+pub mod Value
+pub mod Spots
+pub mod Feeds
+pub mod Units
+pub mod Plant

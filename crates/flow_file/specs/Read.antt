@@ -1,17 +1,26 @@
--- What a reader of a value answers, beside what is to be read.
-use Rattle.std.specs.Prelude.{◌≡◌, Option, Some, None, Result, Ok, Err, option_and_then}
-use Rattle.flow_file.specs.declared.unread.Unread.{Unread}
-use Rattle.flow_file.specs.declared.unread.Unread.TheVariants.{NotOneTank, NoMemory}
+-- What reading a value answers: the value, or the first refusal.
+use Rattle.std.specs.Prelude.{◌≡◌, Result, Ok, Err}
+use Rattle.flow_file.specs.declared.fault.TextFault.{TextFault}
+use Rattle.flow_file.specs.declared.fault.Unread.{Unread}
+use Rattle.flow_file.specs.declared.fault.Unread.TheVariants as unread
+
+abbrev pub Reading : Type 0 → Type 0
+Reading A = Result A TextFault
 
 infixl 10 ◌>>=◌
-abbrev pub ◌>>=◌ : {A B : Type 0} → Option A → (A → Option B) → Option B
-o >>= f = option_and_then f o
+abbrev pub ◌>>=◌ : {A B : Type 0} → Reading A → (A → Reading B) → Reading B
+(Ok x) >>= f = f x
+(Err fault) >>= f = Err fault
 
--- what was returned, seen by view, is what is to be read, or memory ran out
-abbrev pub GivesBy : {X Y : Type 0} → (X → Y) → Result X Unread → Option Y → Type 0
-GivesBy view (Ok x) read = read ≡ Some (view x)
-GivesBy view (Err NotOneTank) read = read ≡ None
-GivesBy view (Err NoMemory) read = Unit {0}
+-- why nothing was returned is why nothing is to be read, unless memory ran out
+abbrev pub Fails : {X : Type 0} → Unread → Reading X → Type 0
+Fails (unread.Fault fault) reading = reading ≡ Err fault
+Fails unread.NoMemory reading = Unit {0}
 
-abbrev pub Gives : {X : Type 0} → Result X Unread → Option X → Type 0
-Gives result read = GivesBy (λ x. x) result read
+-- what was returned, seen by view, is what is to be read, unless memory ran out
+abbrev pub GivesBy : {X Y : Type 0} → (X → Y) → Result X Unread → Reading Y → Type 0
+GivesBy view (Ok x) reading = reading ≡ Ok (view x)
+GivesBy view (Err end) reading = Fails end reading
+
+abbrev pub Gives : {X : Type 0} → Result X Unread → Reading X → Type 0
+Gives result reading = GivesBy (λ x. x) result reading

@@ -1,12 +1,19 @@
-//! Plant texts: TOML with the keys of a plant. At this stage a text with one tank and its two feeds.
+//! Plant texts: TOML with the keys of a plant, read into its parts or to the first refusal.
 #![tactic(auto)]
 
-mod one_tank;
-mod tree;
-mod unread;
+mod arrays;
+mod fault;
+mod feeds;
+mod kinds;
+mod plant;
+mod reader;
+mod section;
+mod spot;
+mod units;
+mod values;
 
-pub use one_tank::{Inflow, OneTank, TankPart, Valve, read_one_tank};
-pub use unread::Unread;
+pub use fault::{TextFault, Unread};
+pub use plant::read_plant;
 
 #[cfg(test)]
 mod tests;

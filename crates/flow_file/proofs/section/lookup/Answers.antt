@@ -1,12 +1,12 @@
 use Rattle.toml.proofs.Views.{table_get}
-use Rattle.flow_file.proofs.tree.member.Goals as goal
+use Rattle.flow_file.proofs.section.lookup.Goals as goal
 
-pub returns-in-Some : goal.returns-in-Some
-returns-in-Some c =
+pub returns-in-Some-clause-some : goal.returns-in-Some-clause-some
+returns-in-Some-clause-some c =
     let found = table_get c.get.result c.args.key.now c.args.table.now.entries c.get.ensures.value in
     rw (← rw c.in-Some.is at found)
 
-pub returns-in-None : goal.returns-in-None
-returns-in-None c =
+pub returns-in-None-clause-none : goal.returns-in-None-clause-none
+returns-in-None-clause-none c =
     let found = table_get c.get.result c.args.key.now c.args.table.now.entries c.get.ensures.value in
     rw (← rw c.in-None.is at found)

@@ -1,0 +1,106 @@
+-- The reading of a plant text: the parts that it says, or the first refusal.
+use Rattle.std.specs.Prelude.{ℕ, ℤ, pos, List, [], ◌∷◌, codes, None, Ok, unwrap_or, int_le, ◌&&◌}
+use Rattle.quant.specs.declared.limits.Limits.{Limits}
+use Rattle.parts.specs.Parts.{FileParts}
+use Rattle.parts.specs.declared.feeds.FeedPart.{FeedPart}
+use Rattle.parts.specs.declared.parts.Widths.{Widths}
+use Rattle.toml.specs.Data.{Data, Members, as_integer}
+use Rattle.flow_file.specs.declared.fault.TextFault.TheVariants as fault
+use Rattle.flow_file.specs.declared.plant.Frame.{Frame}
+use Rattle.flow_file.specs.Read.{Reading, ◌>>=◌}
+use Rattle.flow_file.specs.Value.{Bytes, or_fault, when, Section, section_of}
+use Rattle.flow_file.specs.Value.{at_key, at_optional, no_others, number_in, count_in, band_of, list_of, tree_of}
+use Rattle.flow_file.specs.Feeds.{feed_of}
+use Rattle.flow_file.specs.Units.{unit_of}
+
+-- the number of the format, which is 1
+unfoldable pub format_of : Bytes → Data → Reading ℤ
+format_of place node = do
+  found ← or_fault (as_integer node) (fault.WrongType place)
+  when (int_le (pos 1) found && int_le found (pos 1)) found (fault.Format found)
+
+-- the ticks of the run, and those of a window
+unfoldable pub run_of : Bytes → Data → Reading (ℕ × ℕ)
+run_of place node = do
+  section ← section_of place node
+  ticks ← at_key (count_in 1 100000) section (codes "ticks")
+  window ← at_key (count_in 1 64) section (codes "window")
+  others ← no_others (codes "ticks" ∷ codes "window" ∷ []) section
+  Ok (ticks, window)
+
+unfoldable pub limits_of : Bytes → Data → Reading Limits
+limits_of place node = do
+  section ← section_of place node
+  flow ← at_key band_of section (codes "flow")
+  conc ← at_key band_of section (codes "conc")
+  temp ← at_key band_of section (codes "temp")
+  volume ← at_key band_of section (codes "volume")
+  signal ← at_key band_of section (codes "signal")
+  others ← no_others (codes "flow" ∷ codes "conc" ∷ codes "temp" ∷ codes "volume" ∷ codes "signal" ∷ []) section
+  Ok (record { flow = flow; conc = conc; temp = temp; volume = volume; signal = signal })
+
+-- a width that may be asked for
+abbrev pub width_in : Bytes → Data → Reading ℤ
+width_in = number_in (pos 0) (pos 2000000000000)
+
+unfoldable pub widths_of : Bytes → Data → Reading Widths
+widths_of place node = do
+  section ← section_of place node
+  flow ← at_optional width_in section (codes "flow")
+  conc ← at_optional width_in section (codes "conc")
+  temp ← at_optional width_in section (codes "temp")
+  signal ← at_optional width_in section (codes "signal")
+  others ← no_others (codes "flow" ∷ codes "conc" ∷ codes "temp" ∷ codes "signal" ∷ []) section
+  Ok (record { flow = flow; conc = conc; temp = temp; signal = signal })
+
+abbrev pub no_widths : Widths
+no_widths = record { flow = None; conc = None; temp = None; signal = None }
+
+-- the keys of the whole text
+abbrev pub top_keys : List Bytes
+top_keys = codes "format" ∷ codes "run" ∷ codes "limits" ∷ codes "width" ∷ codes "feed" ∷ codes "unit" ∷ []
+
+-- the whole text as a table
+abbrev pub whole : Members → Reading Section
+whole table = Ok (record { prefix = []; members = table })
+
+-- the widths that are asked for, or none; and the feeds, or none
+unfoldable pub widths_at : Section → Reading Widths
+widths_at section = do
+  found ← at_optional widths_of section (codes "width")
+  Ok (unwrap_or found no_widths)
+
+unfoldable pub feeds_at : Section → Reading (List FeedPart)
+feeds_at section = do
+  found ← at_optional (list_of feed_of 0 256) section (codes "feed")
+  Ok (unwrap_or found [])
+
+-- what stands before the feeds and the units
+unfoldable pub frame_of : Section → Reading Frame
+frame_of top = do
+  format ← at_key format_of top (codes "format")
+  run ← at_key run_of top (codes "run")
+  limits ← at_key limits_of top (codes "limits")
+  width ← widths_at top
+  Ok (record { ticks = run.0; window = run.1; limits = limits; width = width })
+
+-- the tree of a plant text
+unfoldable pub parts_of : Members → Reading FileParts
+parts_of table = do
+  top ← whole table
+  frame ← frame_of top
+  feeds ← feeds_at top
+  units ← at_key (list_of unit_of 1 256) top (codes "unit")
+  others ← no_others top_keys top
+  Ok (record {
+    ticks = frame.ticks;
+    window = frame.window;
+    limits = frame.limits;
+    width = frame.width;
+    feeds = feeds;
+    units = units;
+  })
+
+-- the parts that a plant text says, or the first refusal
+unfoldable pub parts_in : Bytes → Reading FileParts
+parts_in bytes = tree_of bytes >>= parts_of

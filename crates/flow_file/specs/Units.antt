@@ -1,0 +1,179 @@
+-- The units of a plant text.
+use Rattle.std.specs.Prelude.{◌&&◌, ℤ, pos, neg_ℤ, int_le, Bool, if◌then◌else◌}
+use Rattle.std.specs.Prelude.{List, [], ◌∷◌, bytes_eq, codes, Option, Some, None, Ok, unwrap_or}
+use Rattle.quant.specs.Interval.{Interval, wide}
+use Rattle.quant.specs.Operation.{million}
+use Rattle.parts.specs.declared.units.KindPart.{KindPart}
+use Rattle.parts.specs.declared.units.KindPart.TheVariants as part
+use Rattle.parts.specs.declared.units.OwnLimits.{OwnLimits}
+use Rattle.parts.specs.declared.units.UnitPart.{UnitPart}
+use Rattle.toml.specs.Data.{Data, as_array}
+use Rattle.flow_file.specs.declared.fault.TextFault.TheVariants as fault
+use Rattle.flow_file.specs.declared.units.UnitKind.{UnitKind}
+use Rattle.flow_file.specs.declared.units.UnitKind.TheVariants as kind
+use Rattle.flow_file.specs.declared.kinds.Contents.{Contents}
+use Rattle.flow_file.specs.declared.kinds.Opening.{Opening}
+use Rattle.flow_file.specs.Read.{Reading, ◌>>=◌}
+use Rattle.flow_file.specs.Value.{Bytes, or_fault, when, Section, section_of, at_key, at_optional, no_others}
+use Rattle.flow_file.specs.Value.{number_in, count_in, band_of, pair_of, text_of, name_of, reference_of, list_of}
+
+-- the numbers from 0 to one million, and those that a gain may be
+abbrev pub ppm_in : Bytes → Data → Reading ℤ
+ppm_in = number_in (pos 0) million
+
+abbrev pub gain_in : Bytes → Data → Reading ℤ
+gain_in = number_in (neg_ℤ (pos 1000000000)) (pos 1000000000)
+
+-- a point of a rate table: a temperature, and a rate
+abbrev pub is_rate_point : ℤ × ℤ → Bool
+is_rate_point point =
+    (int_le wide.lo point.0 && int_le point.0 wide.hi) && (int_le (pos 0) point.1 && int_le point.1 million)
+
+unfoldable pub rate_point_of : Bytes → Data → Reading (ℤ × ℤ)
+rate_point_of place node = do
+  array ← or_fault (as_array node) (fault.WrongType place)
+  point ← or_fault (pair_of array) (fault.WrongType place)
+  when (is_rate_point point) point (fault.OutOfRange place)
+
+-- what a tank or a reactor holds at the first tick
+unfoldable pub contents_of : Section → Reading Contents
+contents_of section = do
+  volume ← at_key band_of section (codes "volume")
+  flow ← at_key band_of section (codes "flow")
+  conc ← at_key band_of section (codes "conc")
+  temp ← at_key band_of section (codes "temp")
+  Ok (record { volume = volume; flow = flow; conc = conc; temp = temp })
+
+unfoldable pub tank_of : Section → Reading KindPart
+tank_of section = do
+  input ← at_key reference_of section (codes "in")
+  valve ← at_key reference_of section (codes "valve")
+  k ← at_key ppm_in section (codes "k")
+  held ← contents_of section
+  Ok (part.Tank input valve k held.volume held.flow held.conc held.temp)
+
+unfoldable pub reactor_of : Section → Reading KindPart
+reactor_of section = do
+  input ← at_key reference_of section (codes "in")
+  valve ← at_key reference_of section (codes "valve")
+  jacket ← at_key reference_of section (codes "jacket")
+  k ← at_key ppm_in section (codes "k")
+  rate ← at_key (list_of rate_point_of 1 64) section (codes "rate")
+  heat ← at_key gain_in section (codes "heat")
+  ua ← at_key ppm_in section (codes "ua")
+  held ← contents_of section
+  Ok (part.Reactor input valve jacket k rate heat ua held.volume held.flow held.conc held.temp)
+
+-- the bands at two keys, a flow and a temperature
+unfoldable pub flow_and_temp_of : Section → Bytes → Bytes → Reading (Interval × Interval)
+flow_and_temp_of section flow_key temp_key = do
+  flow ← at_key band_of section flow_key
+  temp ← at_key band_of section temp_key
+  Ok (flow, temp)
+
+-- what a column starts from
+unfoldable pub opening_of : Section → Reading Opening
+opening_of section = do
+  x ← at_key band_of section (codes "x")
+  liquid ← flow_and_temp_of section (codes "liquid_flow") (codes "liquid_temp")
+  vapour ← flow_and_temp_of section (codes "vapour_flow") (codes "vapour_temp")
+  Ok (record { x = x; liquid_flow = liquid.0; liquid_temp = liquid.1; vapour_flow = vapour.0; vapour_temp = vapour.1 })
+
+unfoldable pub column_of : Section → Reading KindPart
+column_of section = do
+  liquid ← at_key reference_of section (codes "liquid")
+  vapour ← at_key reference_of section (codes "vapour")
+  stages ← at_key (count_in 1 64) section (codes "stages")
+  holdup ← at_key (number_in (pos 1) (pos 1000000000000)) section (codes "holdup")
+  slope ← at_key (number_in (pos 0) (pos 1000000000)) section (codes "slope")
+  held ← opening_of section
+  Ok (part.Column liquid vapour stages holdup slope held.x held.liquid_flow held.liquid_temp held.vapour_flow held.vapour_temp)
+
+unfoldable pub controller_of : Section → Reading KindPart
+controller_of section = do
+  set ← at_key reference_of section (codes "set")
+  measured ← at_key reference_of section (codes "measured")
+  kp ← at_key gain_in section (codes "kp")
+  ki ← at_key gain_in section (codes "ki")
+  bias ← at_key (number_in wide.lo wide.hi) section (codes "bias")
+  integral_limits ← at_key band_of section (codes "integral_limits")
+  integral ← at_key band_of section (codes "integral")
+  out ← at_key band_of section (codes "out")
+  Ok (part.Controller set measured kp ki bias integral_limits integral out)
+
+unfoldable pub mixer_of : Section → Reading KindPart
+mixer_of section = do
+  input ← at_key (list_of reference_of 2 8) section (codes "in")
+  Ok (part.Mixer input)
+
+unfoldable pub splitter_of : Section → Reading KindPart
+splitter_of section = do
+  input ← at_key reference_of section (codes "in")
+  share ← at_key ppm_in section (codes "share")
+  Ok (part.Splitter input share)
+
+-- the kinds of units, by their names
+abbrev pub kind_named : Bytes → Option UnitKind
+kind_named text =
+    if bytes_eq text (codes "tank") then Some kind.Tank
+    else if bytes_eq text (codes "reactor") then Some kind.Reactor
+    else if bytes_eq text (codes "column") then Some kind.Column
+    else if bytes_eq text (codes "controller") then Some kind.Controller
+    else if bytes_eq text (codes "mixer") then Some kind.Mixer
+    else if bytes_eq text (codes "splitter") then Some kind.Splitter
+    else None
+
+unfoldable pub unit_kind_of : Bytes → Data → Reading UnitKind
+unit_kind_of place node = do
+  text ← text_of place node
+  or_fault (kind_named text) (fault.OutOfRange place)
+
+-- the keys of each kind
+unfoldable pub keys_of : UnitKind → List Bytes
+keys_of kind.Tank = codes "in" ∷ codes "valve" ∷ codes "k" ∷ codes "volume" ∷ codes "flow" ∷ codes "conc" ∷ codes "temp" ∷ []
+keys_of kind.Reactor =
+    codes "in" ∷ codes "valve" ∷ codes "jacket" ∷ codes "k" ∷ codes "rate" ∷ codes "heat" ∷ codes "ua"
+    ∷ codes "volume" ∷ codes "flow" ∷ codes "conc" ∷ codes "temp" ∷ []
+keys_of kind.Column =
+    codes "liquid" ∷ codes "vapour" ∷ codes "stages" ∷ codes "holdup" ∷ codes "slope" ∷ codes "x"
+    ∷ codes "liquid_flow" ∷ codes "liquid_temp" ∷ codes "vapour_flow" ∷ codes "vapour_temp" ∷ []
+keys_of kind.Controller =
+    codes "set" ∷ codes "measured" ∷ codes "kp" ∷ codes "ki" ∷ codes "bias" ∷ codes "integral_limits" ∷ codes "integral"
+    ∷ codes "out" ∷ []
+keys_of kind.Mixer = codes "in" ∷ []
+keys_of kind.Splitter = codes "in" ∷ codes "share" ∷ []
+
+-- what a unit of each kind says
+unfoldable pub part_of : UnitKind → Section → Reading KindPart
+part_of kind.Tank section = tank_of section
+part_of kind.Reactor section = reactor_of section
+part_of kind.Column section = column_of section
+part_of kind.Controller section = controller_of section
+part_of kind.Mixer section = mixer_of section
+part_of kind.Splitter section = splitter_of section
+
+-- the limits that are a unit's own
+unfoldable pub own_limits_of : Bytes → Data → Reading OwnLimits
+own_limits_of place node = do
+  section ← section_of place node
+  flow ← at_optional band_of section (codes "flow")
+  conc ← at_optional band_of section (codes "conc")
+  temp ← at_optional band_of section (codes "temp")
+  volume ← at_optional band_of section (codes "volume")
+  signal ← at_optional band_of section (codes "signal")
+  others ← no_others (codes "flow" ∷ codes "conc" ∷ codes "temp" ∷ codes "volume" ∷ codes "signal" ∷ []) section
+  Ok (record { flow = flow; conc = conc; temp = temp; volume = volume; signal = signal })
+
+abbrev pub no_limits : OwnLimits
+no_limits = record { flow = None; conc = None; temp = None; volume = None; signal = None }
+
+-- a unit: its name, its kind, the keys of its kind, and its limits
+unfoldable pub unit_of : Bytes → Data → Reading UnitPart
+unit_of place node = do
+  section ← section_of place node
+  name ← at_key name_of section (codes "name")
+  kind ← at_key unit_kind_of section (codes "kind")
+  part ← part_of kind section
+  limits ← at_optional own_limits_of section (codes "limits")
+  others ← no_others (codes "name" ∷ codes "kind" ∷ codes "limits" ∷ keys_of kind) section
+  Ok (record { name = name; kind = part; limits = unwrap_or limits no_limits })

@@ -1,0 +1,84 @@
+//! Readers of arrays, whose values are all read by one reader.
+
+ghost use Rattle.std.specs.Prelude.{◌≡◌, ◌≤◌, IfOk, length, vec_len};
+ghost use Rattle.std.specs.List.{AllByRecursion};
+ghost use Rattle.toml.specs.View.{view, array_view};
+ghost use Rattle.flow_file.specs.Read.{GivesBy};
+ghost use Rattle.flow_file.specs.Value.{array_between, read_from, list_of};
+ghost use Rattle.flow_file.specs.Spots.{place_of};
+
+use crate::fault::Unread;
+use crate::reader::Reader;
+use crate::spot::Spot;
+use std::alloc::Global;
+use toml::Value;
+use toml::value::Array;
+
+/// An array of `least` to `most` values.
+#[tactic(auto, using(crate::proofs::Lists::item_count_is_length), unfolding(crate::specs::Value::array_between))]
+fn array_between<'a>(
+    alloc: Global,
+    spot: Spot,
+    node: &'a Value,
+    least: usize,
+    most: usize,
+) -> Result<&'a Array, Unread>
+    ensures exact { GivesBy (λ array. array_view array.now) result
+        (array_between least most (place_of spot.entry) (view node.now)) }
+    ensures length { IfOk result (λ array. (least ≤ vec_len array.now) × (vec_len array.now ≤ most)) }
+{
+    let Some(array) = node.as_array() else {
+        return Err(spot.wrong_type(alloc)?);
+    };
+    if most < array.len() {
+        return Err(spot.too_many(alloc)?);
+    }
+    if array.len() < least {
+        return Err(spot.out_of_range(alloc)?);
+    }
+    Ok(array)
+}
+
+/// The values of the array at a place.
+#[tactic(auto, using(crate::proofs::Loop::more, crate::proofs::Loop::ends, crate::proofs::Loop::done, crate::proofs::Loop::push))]
+fn items_of<R: Reader>(
+    alloc: Global,
+    place: &str,
+    array: &Array,
+    reader: R,
+) -> Result<Vec<R::Item>, Unread>
+    ensures exact { GivesBy (λ items. items.items) result (read_from (R.reads reader) place.now 0 (array_view array.now)) }
+    ensures length { IfOk result (λ items. length items.items ≡ vec_len array.now) }
+    ensures inside { IfOk result (λ items. AllByRecursion (R.may_be reader) items.items) }
+{
+    let mut items = Vec::new(alloc);
+    for (index, node) in array.iter().enumerate() {
+        let spot = Spot::Item {
+            array: place,
+            index,
+        };
+        let item = reader.read(alloc, spot, node)?;
+        items.push(item)?;
+    }
+    Ok(items)
+}
+
+/// The values of an array of `least` to `most` at a spot.
+#[tactic(auto, unfolding(crate::specs::Value::list_of))]
+pub(crate) fn list_at<R: Reader>(
+    alloc: Global,
+    spot: Spot,
+    node: &Value,
+    reader: R,
+    least: usize,
+    most: usize,
+) -> Result<Vec<R::Item>, Unread>
+    ensures exact { GivesBy (λ items. items.items) result
+        (list_of (R.reads reader) least most (place_of spot.entry) (view node.now)) }
+    ensures length { IfOk result (λ items. (least ≤ length items.items) × (length items.items ≤ most)) }
+    ensures inside { IfOk result (λ items. AllByRecursion (R.may_be reader) items.items) }
+{
+    let array = array_between(alloc, spot, node, least, most)?;
+    let place = spot.text(alloc)?;
+    items_of(alloc, place.as_str(), array, reader)
+}

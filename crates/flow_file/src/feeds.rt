@@ -1,0 +1,195 @@
+//! Readers of the feeds of a plant text.
+
+ghost use Rattle.std.specs.Prelude.{◌≡◌, IfOk};
+ghost use Rattle.parts.specs.InRange.{IsName, IsPiece, ArePieces, IsFeedBand, IsFeedPart};
+ghost use Rattle.toml.specs.Data.{as_array};
+ghost use Rattle.toml.specs.View.{view};
+ghost use Rattle.flow_file.specs.Read.{Gives};
+ghost use Rattle.flow_file.specs.Value.{list_of};
+ghost use Rattle.flow_file.specs.Feeds.{piece_of, begins_with_array, feed_band_of};
+ghost use Rattle.flow_file.specs.Feeds.{material_of, signal_of, signal_named, is_signal_of, feed_of};
+ghost use Rattle.flow_file.specs.Spots.{seen};
+
+use crate::arrays::list_at;
+use crate::fault::Unread;
+use crate::reader::Reader;
+use crate::section::{Section, section_at};
+use crate::spot::Spot;
+use crate::values::{Name, WideBand, band_between, text_at};
+use parts::{FeedBand, FeedKind, FeedPart, Piece, Pieces};
+use quant::Text;
+use std::alloc::Global;
+use toml::Value;
+
+/// The greatest tick of a piece.
+const LAST_PIECE: i64 = 1_000_000_000;
+
+/// A piece: its tick, and the ends of its band.
+#[derive(Clone, Copy)]
+struct PieceReader;
+
+impl Reader for PieceReader {
+    type Item = Piece;
+
+    ghost reads = { λ _. piece_of };
+
+    ghost may_be = { λ _. IsPiece };
+
+    #[tactic(auto, using(crate::proofs::Lists::no_triple), unfolding(crate::specs::Feeds::piece_of))]
+    fn read(self, alloc: Global, spot: Spot, node: &Value) -> Result<Piece, Unread> {
+        let Some(array) = node.as_array() else {
+            return Err(spot.wrong_type(alloc)?);
+        };
+        let [tick, lo, hi] = array.as_slice() else {
+            return Err(spot.wrong_type(alloc)?);
+        };
+        let (Some(tick), Some(lo), Some(hi)) = (tick.as_integer(), lo.as_integer(), hi.as_integer())
+        else {
+            return Err(spot.wrong_type(alloc)?);
+        };
+        if tick < 0 || LAST_PIECE < tick {
+            return Err(spot.out_of_range(alloc)?);
+        }
+        let band = band_between(alloc, spot, lo, hi)?;
+        Ok(Piece {
+            tick: tick as u32,
+            band,
+        })
+    }
+}
+
+/// The pieces of a band.
+#[derive(Clone, Copy)]
+struct PiecesReader;
+
+impl Reader for PiecesReader {
+    type Item = Pieces;
+
+    ghost reads = { λ _. list_of piece_of 1 1000 };
+
+    ghost may_be = { λ _. ArePieces };
+
+    fn read(self, alloc: Global, spot: Spot, node: &Value) -> Result<Pieces, Unread> {
+        let pieces = list_at(alloc, spot, node, PieceReader, 1, 1000)?;
+        Ok(Pieces::new(pieces))
+    }
+}
+
+/// Whether a value is an array whose first value is an array.
+fn begins_with_array(node: &Value) -> bool
+    ensures { result ≡ begins_with_array (as_array (view node.now)) }
+{
+    let Some(array) = node.as_array() else {
+        return false;
+    };
+    match array.as_slice() {
+        [first, ..] => first.as_array().is_some(),
+        [] => false,
+    }
+}
+
+/// The band of a feed's channel: pieces, or one band at every tick.
+#[derive(Clone, Copy)]
+struct FeedBandReader;
+
+impl Reader for FeedBandReader {
+    type Item = FeedBand;
+
+    ghost reads = { λ _. feed_band_of };
+
+    ghost may_be = { λ _. IsFeedBand };
+
+    #[tactic(auto, unfolding(crate::specs::Feeds::feed_band_of, crate::specs::Feeds::pieces_of))]
+    fn read(self, alloc: Global, spot: Spot, node: &Value) -> Result<FeedBand, Unread> {
+        if begins_with_array(node) {
+            let pieces = PiecesReader.read(alloc, spot, node)?;
+            Ok(FeedBand::Pieces { pieces })
+        } else {
+            let band = WideBand.read(alloc, spot, node)?;
+            Ok(FeedBand::Constant { band })
+        }
+    }
+}
+
+/// The rest of a material feed.
+#[tactic(auto, unfolding(crate::specs::Feeds::material_of))]
+fn material_of(alloc: Global, section: &Section, name: Text) -> Result<FeedPart, Unread>
+    requires { IsName name }
+    ensures exact { Gives result (material_of (seen section.now) name) }
+    ensures inside { IfOk result IsFeedPart }
+{
+    let flow = section.read(alloc, "flow", FeedBandReader)?;
+    let conc = section.read(alloc, "conc", FeedBandReader)?;
+    let temp = section.read(alloc, "temp", FeedBandReader)?;
+    section.no_others(alloc, &["name", "kind", "flow", "conc", "temp"])?;
+    let kind = FeedKind::Material { flow, conc, temp };
+    Ok(FeedPart { name, kind })
+}
+
+/// The rest of a signal feed.
+#[tactic(auto, unfolding(crate::specs::Feeds::signal_of))]
+fn signal_of(alloc: Global, section: &Section, name: Text) -> Result<FeedPart, Unread>
+    requires { IsName name }
+    ensures exact { Gives result (signal_of (seen section.now) name) }
+    ensures inside { IfOk result IsFeedPart }
+{
+    let value = section.read(alloc, "value", FeedBandReader)?;
+    section.no_others(alloc, &["name", "kind", "value"])?;
+    let kind = FeedKind::Signal { value };
+    Ok(FeedPart { name, kind })
+}
+
+/// Whether a feed of this kind is a signal.
+fn signal_named(kind: &str) -> Option<bool>
+    ensures { result ≡ signal_named kind.now }
+{
+    match kind {
+        "material" => Some(false),
+        "signal" => Some(true),
+        _ => None,
+    }
+}
+
+/// The kind of a feed: whether it is a signal.
+#[derive(Clone, Copy)]
+struct SignalReader;
+
+impl Reader for SignalReader {
+    type Item = bool;
+
+    ghost reads = { λ _. is_signal_of };
+
+    ghost may_be = { λ _ _. Unit {0} };
+
+    #[tactic(auto, unfolding(crate::specs::Feeds::is_signal_of))]
+    fn read(self, alloc: Global, spot: Spot, node: &Value) -> Result<bool, Unread> {
+        let text = text_at(alloc, spot, node)?;
+        match signal_named(text) {
+            Some(is_signal) => Ok(is_signal),
+            None => Err(spot.out_of_range(alloc)?),
+        }
+    }
+}
+
+/// A feed: its name, its kind, and the keys of its kind.
+#[derive(Clone, Copy)]
+pub(crate) struct FeedReader;
+
+impl Reader for FeedReader {
+    type Item = FeedPart;
+
+    ghost reads = { λ _. feed_of };
+
+    ghost may_be = { λ _. IsFeedPart };
+
+    #[tactic(auto, unfolding(crate::specs::Feeds::feed_of))]
+    fn read(self, alloc: Global, spot: Spot, node: &Value) -> Result<FeedPart, Unread> {
+        let section = section_at(alloc, spot, node)?;
+        let name = section.read(alloc, "name", Name)?;
+        if section.read(alloc, "kind", SignalReader)? {
+            signal_of(alloc, &section, name)
+        } else {
+            material_of(alloc, &section, name)
+        }
+    }
+}

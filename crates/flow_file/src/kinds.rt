@@ -1,0 +1,299 @@
+//! Readers of what a unit of each kind says.
+
+ghost use Rattle.std.specs.Prelude.{IfOk};
+ghost use Rattle.parts.specs.InRange.{IsWide, IsRatePoint, AreRatePoints, AreInputs, IsKindPart};
+ghost use Rattle.parts.specs.InRange.{AreContents, AreColumnBands};
+ghost use Rattle.flow_file.specs.Read.{Gives};
+ghost use Rattle.flow_file.specs.Value.{list_of, reference_of};
+ghost use Rattle.flow_file.specs.Units.{rate_point_of, contents_of, flow_and_temp_of, opening_of};
+ghost use Rattle.flow_file.specs.Units.{tank_of, reactor_of, column_of, controller_of, mixer_of, splitter_of};
+ghost use Rattle.flow_file.specs.Spots.{seen};
+
+use crate::arrays::list_at;
+use crate::fault::Unread;
+use crate::reader::Reader;
+use crate::section::Section;
+use crate::spot::Spot;
+use crate::values::{CountIn, NumberIn, Reference, WIDEST, WideBand};
+use parts::{KindPart, RatePoints, Texts};
+use quant::{Band, MILLION};
+use std::alloc::Global;
+use toml::Value;
+
+/// A ratio in ppm.
+const PPM: NumberIn = NumberIn { lo: 0, hi: MILLION };
+
+/// What a gain may be.
+const GAIN: NumberIn = NumberIn {
+    lo: -1_000_000_000,
+    hi: 1_000_000_000,
+};
+
+/// What a tank or a reactor holds at the first tick.
+#[derive(Clone, Copy, Debug)]
+pub(crate) struct Contents {
+    pub volume: Band,
+    pub flow: Band,
+    pub conc: Band,
+    pub temp: Band,
+}
+
+/// What a column starts from.
+#[derive(Clone, Copy, Debug)]
+pub(crate) struct Opening {
+    pub x: Band,
+    pub liquid_flow: Band,
+    pub liquid_temp: Band,
+    pub vapour_flow: Band,
+    pub vapour_temp: Band,
+}
+
+/// A point of a rate table: a temperature in mK, and the ppm that react in a tick.
+#[derive(Clone, Copy)]
+struct RatePointReader;
+
+impl Reader for RatePointReader {
+    type Item = (i64, i64);
+
+    ghost reads = { λ _. rate_point_of };
+
+    ghost may_be = { λ _. IsRatePoint };
+
+    #[tactic(auto, using(crate::proofs::Lists::no_pair), unfolding(crate::specs::Units::rate_point_of))]
+    fn read(self, alloc: Global, spot: Spot, node: &Value) -> Result<(i64, i64), Unread> {
+        let Some(array) = node.as_array() else {
+            return Err(spot.wrong_type(alloc)?);
+        };
+        let [temp, ppm] = array.as_slice() else {
+            return Err(spot.wrong_type(alloc)?);
+        };
+        let (Some(temp), Some(ppm)) = (temp.as_integer(), ppm.as_integer()) else {
+            return Err(spot.wrong_type(alloc)?);
+        };
+        if temp < -WIDEST || WIDEST < temp || ppm < 0 || MILLION < ppm {
+            return Err(spot.out_of_range(alloc)?);
+        }
+        Ok((temp, ppm))
+    }
+}
+
+/// The points of a rate table.
+#[derive(Clone, Copy)]
+struct RatePointsReader;
+
+impl Reader for RatePointsReader {
+    type Item = RatePoints;
+
+    ghost reads = { λ _. list_of rate_point_of 1 64 };
+
+    ghost may_be = { λ _. AreRatePoints };
+
+    fn read(self, alloc: Global, spot: Spot, node: &Value) -> Result<RatePoints, Unread> {
+        let points = list_at(alloc, spot, node, RatePointReader, 1, 64)?;
+        Ok(RatePoints::new(points))
+    }
+}
+
+/// What a mixer reads.
+#[derive(Clone, Copy)]
+struct InputsReader;
+
+impl Reader for InputsReader {
+    type Item = Texts;
+
+    ghost reads = { λ _. list_of reference_of 2 8 };
+
+    ghost may_be = { λ _. AreInputs };
+
+    fn read(self, alloc: Global, spot: Spot, node: &Value) -> Result<Texts, Unread> {
+        let inputs = list_at(alloc, spot, node, Reference, 2, 8)?;
+        Ok(Texts::new(inputs))
+    }
+}
+
+/// What a tank or a reactor holds at the first tick.
+#[tactic(auto, unfolding(crate::specs::Units::contents_of))]
+fn contents_of(alloc: Global, section: &Section) -> Result<Contents, Unread>
+    ensures exact { Gives result (contents_of (seen section.now)) }
+    ensures inside { IfOk result (λ held. AreContents held.volume held.flow held.conc held.temp) }
+{
+    let volume = section.read(alloc, "volume", WideBand)?;
+    let flow = section.read(alloc, "flow", WideBand)?;
+    let conc = section.read(alloc, "conc", WideBand)?;
+    let temp = section.read(alloc, "temp", WideBand)?;
+    Ok(Contents {
+        volume,
+        flow,
+        conc,
+        temp,
+    })
+}
+
+#[tactic(auto, unfolding(crate::specs::Units::tank_of))]
+pub(crate) fn tank_of(alloc: Global, section: &Section) -> Result<KindPart, Unread>
+    ensures exact { Gives result (tank_of (seen section.now)) }
+    ensures inside { IfOk result IsKindPart }
+{
+    let input = section.read(alloc, "in", Reference)?;
+    let valve = section.read(alloc, "valve", Reference)?;
+    let k = section.read(alloc, "k", PPM)?;
+    let held = contents_of(alloc, section)?;
+    Ok(KindPart::Tank {
+        input,
+        valve,
+        k,
+        volume: held.volume,
+        flow: held.flow,
+        conc: held.conc,
+        temp: held.temp,
+    })
+}
+
+#[tactic(auto, unfolding(crate::specs::Units::reactor_of))]
+pub(crate) fn reactor_of(alloc: Global, section: &Section) -> Result<KindPart, Unread>
+    ensures exact { Gives result (reactor_of (seen section.now)) }
+    ensures inside { IfOk result IsKindPart }
+{
+    let input = section.read(alloc, "in", Reference)?;
+    let valve = section.read(alloc, "valve", Reference)?;
+    let jacket = section.read(alloc, "jacket", Reference)?;
+    let k = section.read(alloc, "k", PPM)?;
+    let rate = section.read(alloc, "rate", RatePointsReader)?;
+    let heat = section.read(alloc, "heat", GAIN)?;
+    let ua = section.read(alloc, "ua", PPM)?;
+    let held = contents_of(alloc, section)?;
+    Ok(KindPart::Reactor {
+        input,
+        valve,
+        jacket,
+        k,
+        rate,
+        heat,
+        ua,
+        volume: held.volume,
+        flow: held.flow,
+        conc: held.conc,
+        temp: held.temp,
+    })
+}
+
+/// The bands at two keys, a flow and a temperature.
+#[tactic(auto, unfolding(crate::specs::Units::flow_and_temp_of))]
+fn flow_and_temp_of(
+    alloc: Global,
+    section: &Section,
+    flow_key: &str,
+    temp_key: &str,
+) -> Result<(Band, Band), Unread>
+    ensures exact { Gives result (flow_and_temp_of (seen section.now) flow_key.now temp_key.now) }
+    ensures inside { IfOk result (λ bands. IsWide bands.0 × IsWide bands.1) }
+{
+    let flow = section.read(alloc, flow_key, WideBand)?;
+    let temp = section.read(alloc, temp_key, WideBand)?;
+    Ok((flow, temp))
+}
+
+/// What a column starts from.
+#[tactic(auto, unfolding(crate::specs::Units::opening_of))]
+fn opening_of(alloc: Global, section: &Section) -> Result<Opening, Unread>
+    ensures exact { Gives result (opening_of (seen section.now)) }
+    ensures inside { IfOk result (λ held.
+        AreColumnBands held.x held.liquid_flow held.liquid_temp held.vapour_flow held.vapour_temp) }
+{
+    let x = section.read(alloc, "x", WideBand)?;
+    let (liquid_flow, liquid_temp) = flow_and_temp_of(
+        alloc,
+        section,
+        "liquid_flow",
+        "liquid_temp",
+    )?;
+    let (vapour_flow, vapour_temp) = flow_and_temp_of(
+        alloc,
+        section,
+        "vapour_flow",
+        "vapour_temp",
+    )?;
+    Ok(Opening {
+        x,
+        liquid_flow,
+        liquid_temp,
+        vapour_flow,
+        vapour_temp,
+    })
+}
+
+#[tactic(auto, unfolding(crate::specs::Units::column_of))]
+pub(crate) fn column_of(alloc: Global, section: &Section) -> Result<KindPart, Unread>
+    ensures exact { Gives result (column_of (seen section.now)) }
+    ensures inside { IfOk result IsKindPart }
+{
+    let liquid = section.read(alloc, "liquid", Reference)?;
+    let vapour = section.read(alloc, "vapour", Reference)?;
+    let stages = section.read(alloc, "stages", CountIn { least: 1, most: 64 })?;
+    let holdup = section.read(alloc, "holdup", NumberIn { lo: 1, hi: WIDEST })?;
+    let slope = section.read(alloc, "slope", NumberIn { lo: 0, hi: GAIN.hi })?;
+    let held = opening_of(alloc, section)?;
+    Ok(KindPart::Column {
+        liquid,
+        vapour,
+        stages,
+        holdup,
+        slope,
+        x: held.x,
+        liquid_flow: held.liquid_flow,
+        liquid_temp: held.liquid_temp,
+        vapour_flow: held.vapour_flow,
+        vapour_temp: held.vapour_temp,
+    })
+}
+
+#[tactic(auto, unfolding(crate::specs::Units::controller_of))]
+pub(crate) fn controller_of(alloc: Global, section: &Section) -> Result<KindPart, Unread>
+    ensures exact { Gives result (controller_of (seen section.now)) }
+    ensures inside { IfOk result IsKindPart }
+{
+    let set = section.read(alloc, "set", Reference)?;
+    let measured = section.read(alloc, "measured", Reference)?;
+    let kp = section.read(alloc, "kp", GAIN)?;
+    let ki = section.read(alloc, "ki", GAIN)?;
+    let bias = section.read(
+        alloc,
+        "bias",
+        NumberIn {
+            lo: -WIDEST,
+            hi: WIDEST,
+        },
+    )?;
+    let integral_limits = section.read(alloc, "integral_limits", WideBand)?;
+    let integral = section.read(alloc, "integral", WideBand)?;
+    let out = section.read(alloc, "out", WideBand)?;
+    Ok(KindPart::Controller {
+        set,
+        measured,
+        kp,
+        ki,
+        bias,
+        integral_limits,
+        integral,
+        out,
+    })
+}
+
+#[tactic(auto, unfolding(crate::specs::Units::mixer_of))]
+pub(crate) fn mixer_of(alloc: Global, section: &Section) -> Result<KindPart, Unread>
+    ensures exact { Gives result (mixer_of (seen section.now)) }
+    ensures inside { IfOk result IsKindPart }
+{
+    let input = section.read(alloc, "in", InputsReader)?;
+    Ok(KindPart::Mixer { input })
+}
+
+#[tactic(auto, unfolding(crate::specs::Units::splitter_of))]
+pub(crate) fn splitter_of(alloc: Global, section: &Section) -> Result<KindPart, Unread>
+    ensures exact { Gives result (splitter_of (seen section.now)) }
+    ensures inside { IfOk result IsKindPart }
+{
+    let input = section.read(alloc, "in", Reference)?;
+    let share = section.read(alloc, "share", PPM)?;
+    Ok(KindPart::Splitter { input, share })
+}

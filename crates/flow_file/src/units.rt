@@ -1,0 +1,195 @@
+//! Readers of the units of a plant text.
+
+ghost use Rattle.std.specs.Prelude.{◌≡◌, ◌∷◌, codes, IfOk};
+ghost use Rattle.parts.specs.InRange.{IsKindPart, AreOwnLimits, IsUnitPart};
+ghost use Rattle.flow_file.specs.Read.{Gives};
+ghost use Rattle.flow_file.specs.Units.{kind_named, unit_kind_of, keys_of, part_of, own_limits_of, unit_of};
+ghost use Rattle.flow_file.specs.Spots.{seen, texts};
+
+use crate::fault::Unread;
+use crate::kinds::{column_of, controller_of, mixer_of, reactor_of, splitter_of, tank_of};
+use crate::reader::Reader;
+use crate::section::{Section, section_at};
+use crate::spot::Spot;
+use crate::values::{Name, WideBand, text_at};
+use parts::{KindPart, OwnLimits, UnitPart};
+use std::alloc::Global;
+use toml::Value;
+
+/// The kinds of units.
+#[derive(Clone, Copy, Debug, PartialEq, Eq)]
+pub(crate) enum UnitKind {
+    Tank,
+    Reactor,
+    Column,
+    Controller,
+    Mixer,
+    Splitter,
+}
+
+/// The kind of a unit by its name.
+fn kind_named(name: &str) -> Option<UnitKind>
+    ensures { result ≡ kind_named name.now }
+{
+    match name {
+        "tank" => Some(UnitKind::Tank),
+        "reactor" => Some(UnitKind::Reactor),
+        "column" => Some(UnitKind::Column),
+        "controller" => Some(UnitKind::Controller),
+        "mixer" => Some(UnitKind::Mixer),
+        "splitter" => Some(UnitKind::Splitter),
+        _ => None,
+    }
+}
+
+/// The kind of a unit.
+#[derive(Clone, Copy)]
+struct UnitKindReader;
+
+impl Reader for UnitKindReader {
+    type Item = UnitKind;
+
+    ghost reads = { λ _. unit_kind_of };
+
+    ghost may_be = { λ _ _. Unit {0} };
+
+    #[tactic(auto, unfolding(crate::specs::Units::unit_kind_of))]
+    fn read(self, alloc: Global, spot: Spot, node: &Value) -> Result<UnitKind, Unread> {
+        let text = text_at(alloc, spot, node)?;
+        match kind_named(text) {
+            Some(kind) => Ok(kind),
+            None => Err(spot.out_of_range(alloc)?),
+        }
+    }
+}
+
+/// What a unit of the kind says.
+#[tactic(auto, unfolding(crate::specs::Units::part_of))]
+fn part_of(alloc: Global, kind: UnitKind, section: &Section) -> Result<KindPart, Unread>
+    ensures exact { Gives result (part_of kind (seen section.now)) }
+    ensures inside { IfOk result IsKindPart }
+{
+    match kind {
+        UnitKind::Tank => tank_of(alloc, section),
+        UnitKind::Reactor => reactor_of(alloc, section),
+        UnitKind::Column => column_of(alloc, section),
+        UnitKind::Controller => controller_of(alloc, section),
+        UnitKind::Mixer => mixer_of(alloc, section),
+        UnitKind::Splitter => splitter_of(alloc, section),
+    }
+}
+
+/// The keys of a column.
+const COLUMN_KEYS: &[&str] = &[
+    "name",
+    "kind",
+    "limits",
+    "liquid",
+    "vapour",
+    "stages",
+    "holdup",
+    "slope",
+    "x",
+    "liquid_flow",
+    "liquid_temp",
+    "vapour_flow",
+    "vapour_temp",
+];
+
+/// The keys of a unit of the kind.
+#[tactic(auto, unfolding(crate::specs::Units::keys_of))]
+fn unit_keys(kind: UnitKind) -> &'static [&'static str]
+    ensures { texts result.now ≡ codes "name" ∷ codes "kind" ∷ codes "limits" ∷ keys_of kind }
+{
+    match kind {
+        UnitKind::Tank => &[
+            "name", "kind", "limits", "in", "valve", "k", "volume", "flow", "conc", "temp",
+        ],
+        UnitKind::Reactor => &[
+            "name", "kind", "limits", "in", "valve", "jacket", "k", "rate", "heat", "ua", "volume",
+            "flow", "conc", "temp",
+        ],
+        UnitKind::Column => COLUMN_KEYS,
+        UnitKind::Controller => &[
+            "name",
+            "kind",
+            "limits",
+            "set",
+            "measured",
+            "kp",
+            "ki",
+            "bias",
+            "integral_limits",
+            "integral",
+            "out",
+        ],
+        UnitKind::Mixer => &["name", "kind", "limits", "in"],
+        UnitKind::Splitter => &["name", "kind", "limits", "in", "share"],
+    }
+}
+
+/// The limits that are a unit's own.
+#[derive(Clone, Copy)]
+struct OwnLimitsReader;
+
+impl Reader for OwnLimitsReader {
+    type Item = OwnLimits;
+
+    ghost reads = { λ _. own_limits_of };
+
+    ghost may_be = { λ _. AreOwnLimits };
+
+    #[tactic(auto, unfolding(crate::specs::Units::own_limits_of))]
+    fn read(self, alloc: Global, spot: Spot, node: &Value) -> Result<OwnLimits, Unread> {
+        let section = section_at(alloc, spot, node)?;
+        let flow = section.read_optional(alloc, "flow", WideBand)?;
+        let conc = section.read_optional(alloc, "conc", WideBand)?;
+        let temp = section.read_optional(alloc, "temp", WideBand)?;
+        let volume = section.read_optional(alloc, "volume", WideBand)?;
+        let signal = section.read_optional(alloc, "signal", WideBand)?;
+        section.no_others(alloc, &["flow", "conc", "temp", "volume", "signal"])?;
+        Ok(OwnLimits {
+            flow,
+            conc,
+            temp,
+            volume,
+            signal,
+        })
+    }
+}
+
+/// The limits of a unit that has none of its own.
+const NO_LIMITS: OwnLimits = OwnLimits {
+    flow: None,
+    conc: None,
+    temp: None,
+    volume: None,
+    signal: None,
+};
+
+/// A unit: its name, its kind, the keys of its kind, and its limits.
+#[derive(Clone, Copy)]
+pub(crate) struct UnitReader;
+
+impl Reader for UnitReader {
+    type Item = UnitPart;
+
+    ghost reads = { λ _. unit_of };
+
+    ghost may_be = { λ _. IsUnitPart };
+
+    #[tactic(auto, unfolding(crate::specs::Units::unit_of))]
+    fn read(self, alloc: Global, spot: Spot, node: &Value) -> Result<UnitPart, Unread> {
+        let section = section_at(alloc, spot, node)?;
+        let name = section.read(alloc, "name", Name)?;
+        let kind = section.read(alloc, "kind", UnitKindReader)?;
+        let part = part_of(alloc, kind, &section)?;
+        let limits = section.read_optional(alloc, "limits", OwnLimitsReader)?;
+        section.no_others(alloc, unit_keys(kind))?;
+        Ok(UnitPart {
+            name,
+            kind: part,
+            limits: limits.unwrap_or(NO_LIMITS),
+        })
+    }
+}

@@ -1,0 +1,175 @@
+//! Readers of one value each: a number, a band, a name.
+
+ghost use Rattle.std.specs.Prelude.{◌≤◌, IfOk};
+ghost use Rattle.quant.specs.Interval.{Holds};
+ghost use Rattle.parts.specs.InRange.{IsWide, IsName, IsReference};
+ghost use Rattle.toml.specs.View.{view};
+ghost use Rattle.flow_file.specs.Read.{Gives, GivesBy};
+ghost use Rattle.flow_file.specs.Value.{number_in, count_in, band_between, pair_band, band_of, text_of, name_of, reference_of};
+ghost use Rattle.flow_file.specs.Spots.{place_of};
+
+use crate::fault::Unread;
+use crate::reader::Reader;
+use crate::spot::Spot;
+use parts::{is_name, is_reference};
+use quant::{Band, Text};
+use std::alloc::Global;
+use toml::Value;
+
+/// The numbers of limits and bands are at most this far from 0.
+pub(crate) const WIDEST: i64 = 1_000_000_000_000;
+
+/// A whole number from `lo` to `hi`.
+#[derive(Clone, Copy)]
+pub(crate) struct NumberIn {
+    pub lo: i64,
+    pub hi: i64,
+}
+
+impl Reader for NumberIn {
+    type Item = i64;
+
+    ghost reads = { λ range. number_in range.lo range.hi };
+
+    ghost may_be = { λ range. Holds (record { lo = range.lo; hi = range.hi }) };
+
+    #[tactic(auto, unfolding(crate::specs::Value::number_in))]
+    fn read(self, alloc: Global, spot: Spot, node: &Value) -> Result<i64, Unread> {
+        let Some(number) = node.as_integer() else {
+            return Err(spot.wrong_type(alloc)?);
+        };
+        if number < self.lo || self.hi < number {
+            return Err(spot.out_of_range(alloc)?);
+        }
+        Ok(number)
+    }
+}
+
+/// A whole number from `least` to `most`, which are not negative.
+#[derive(Clone, Copy)]
+pub(crate) struct CountIn {
+    pub least: u32,
+    pub most: u32,
+}
+
+impl Reader for CountIn {
+    type Item = u32;
+
+    ghost reads = { λ range. count_in range.least range.most };
+
+    ghost may_be = { λ range count. (range.least ≤ count) × (count ≤ range.most) };
+
+    #[tactic(auto, unfolding(crate::specs::Value::count_in))]
+    fn read(self, alloc: Global, spot: Spot, node: &Value) -> Result<u32, Unread> {
+        let range = NumberIn {
+            lo: i64::from(self.least),
+            hi: i64::from(self.most),
+        };
+        let number = range.read(alloc, spot, node)?;
+        Ok(number as u32)
+    }
+}
+
+/// The band from `lo` to `hi`, where both are at most `WIDEST` from 0 and in this order.
+#[tactic(auto, unfolding(crate::specs::Value::band_between))]
+pub(crate) fn band_between(alloc: Global, spot: Spot, lo: i64, hi: i64) -> Result<Band, Unread>
+    ensures exact { Gives result (band_between (place_of spot.entry) lo hi) }
+    ensures inside { IfOk result IsWide }
+{
+    if -WIDEST <= lo && lo <= hi && hi <= WIDEST {
+        Ok(Band { lo, hi })
+    } else {
+        Err(spot.out_of_range(alloc)?)
+    }
+}
+
+/// A band by its two ends in an array.
+#[tactic(auto, using(crate::proofs::Lists::no_pair), unfolding(crate::specs::Value::pair_band))]
+fn pair_band(alloc: Global, spot: Spot, node: &Value) -> Result<Band, Unread>
+    ensures exact { Gives result (pair_band (place_of spot.entry) (view node.now)) }
+    ensures inside { IfOk result IsWide }
+{
+    let Some(array) = node.as_array() else {
+        return Err(spot.wrong_type(alloc)?);
+    };
+    let [lo, hi] = array.as_slice() else {
+        return Err(spot.wrong_type(alloc)?);
+    };
+    let (Some(lo), Some(hi)) = (lo.as_integer(), hi.as_integer()) else {
+        return Err(spot.wrong_type(alloc)?);
+    };
+    band_between(alloc, spot, lo, hi)
+}
+
+/// A band of wide numbers: its two ends in an array, or one number.
+#[derive(Clone, Copy)]
+pub(crate) struct WideBand;
+
+impl Reader for WideBand {
+    type Item = Band;
+
+    ghost reads = { λ _. band_of };
+
+    ghost may_be = { λ _. IsWide };
+
+    #[tactic(auto, unfolding(crate::specs::Value::band_of))]
+    fn read(self, alloc: Global, spot: Spot, node: &Value) -> Result<Band, Unread> {
+        match node.as_integer() {
+            Some(number) => band_between(alloc, spot, number, number),
+            None => pair_band(alloc, spot, node),
+        }
+    }
+}
+
+/// A text.
+#[tactic(auto, unfolding(crate::specs::Value::text_of))]
+pub(crate) fn text_at<'a>(alloc: Global, spot: Spot, node: &'a Value) -> Result<&'a str, Unread>
+    ensures { GivesBy (λ text. text.now) result (text_of (place_of spot.entry) (view node.now)) }
+{
+    match node.as_str() {
+        Some(text) => Ok(text),
+        None => Err(spot.wrong_type(alloc)?),
+    }
+}
+
+/// A name.
+#[derive(Clone, Copy)]
+pub(crate) struct Name;
+
+impl Reader for Name {
+    type Item = Text;
+
+    ghost reads = { λ _. name_of };
+
+    ghost may_be = { λ _. IsName };
+
+    #[tactic(auto, unfolding(crate::specs::Value::name_of))]
+    fn read(self, alloc: Global, spot: Spot, node: &Value) -> Result<Text, Unread> {
+        let text = text_at(alloc, spot, node)?;
+        if !is_name(text.as_bytes()) {
+            return Err(spot.bad_name(alloc)?);
+        }
+        Ok(Text::copied(alloc, text.as_bytes())?)
+    }
+}
+
+/// A reference: a name, or two names with a dot between them.
+#[derive(Clone, Copy)]
+pub(crate) struct Reference;
+
+impl Reader for Reference {
+    type Item = Text;
+
+    ghost reads = { λ _. reference_of };
+
+    ghost may_be = { λ _. IsReference };
+
+    #[tactic(auto, unfolding(crate::specs::Value::reference_of))]
+    fn read(self, alloc: Global, spot: Spot, node: &Value) -> Result<Text, Unread> {
+        let text = text_at(alloc, spot, node)?;
+        if !is_reference(text) {
+            return Err(spot.bad_name(alloc)?);
+        }
+        Ok(Text::copied(alloc, text.as_bytes())?)
+    }
+}
