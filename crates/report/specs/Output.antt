@@ -41,3 +41,10 @@ tick_rows labels bands tick = rows_from tick (bands tick) 0 labels
 -- the rows of n ticks from a first one
 abbrev pub rows_of : List Label → (ℕ → ℕ → List Interval) → ℕ → ℕ → List ℕ
 rows_of labels bands first n = flat_map (tick_rows labels bands) (range_with_len first n)
+
+-- the table of units: their kinds, and their ranks
+unfoldable pub rank_header : List ℕ
+rank_header = codes "unit,kind,rank\n"
+
+unfoldable pub rank_row : List ℕ → List ℕ → ℕ → List ℕ
+rank_row name kind rank = line (name ∷ kind ∷ decimal rank ∷ [])

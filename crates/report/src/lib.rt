@@ -3,7 +3,7 @@
 
 mod rows;
 
-pub use rows::{OUTPUT_HEADER, Rows, output_header};
+pub use rows::{OUTPUT_HEADER, RANK_HEADER, Rows, output_header, rank_header};
 
 #[cfg(test)]
 mod tests;

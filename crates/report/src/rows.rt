@@ -1,5 +1,5 @@
 ghost use Rattle.std.specs.Prelude.{◌≡◌, ◌≤◌, ◌∷◌, ◌++◌, [], length, map, IfOk, OnOk, OnErr};
-ghost use Rattle.report.specs.Output.{channels, header};
+ghost use Rattle.report.specs.Output.{channels, header, rank_header};
 
 mod row_writer;
 
@@ -17,6 +17,17 @@ pub fn output_header() -> &'static [u8]
     ensures { result.now ≡ header }
 {
     OUTPUT_HEADER.as_bytes()
+}
+
+/// The first line of the table of units and their ranks.
+pub const RANK_HEADER: &str = "unit,kind,rank\n";
+
+/// The bytes of `RANK_HEADER`.
+#[tactic(auto, unfolding(crate::specs::Output::rank_header))]
+pub fn rank_header() -> &'static [u8]
+    ensures { result.now ≡ rank_header }
+{
+    RANK_HEADER.as_bytes()
 }
 
 // The channels of a material stream and of a signal.
@@ -55,7 +66,7 @@ impl Model for Rows {
 
 impl Rows {
     ghost use Rattle.report.specs.Line.{line};
-    ghost use Rattle.report.specs.Output.{stream_rows};
+    ghost use Rattle.report.specs.Output.{stream_rows, rank_row};
     ghost use Rattle.std.specs.Fmt.{signed_decimal};
 
     /// No rows. It takes no memory.
@@ -140,6 +151,18 @@ impl Rows {
             self.put_channel(tick, name, channels[i], bands[i])?;
         }
         Ok(())
+    }
+
+    /// Adds the row of a unit: its name, the name of its kind, and its rank.
+    ///
+    /// The one error is want of memory, after which no rows are left.
+    #[tactic(auto, unfolding(crate::specs::Output::rank_row))]
+    pub fn put_rank(&mut self, name: &[u8], kind: &[u8], rank: u32) -> Result<(), AllocError>
+        ensures ok { OnOk result (self.new ≡ self.old ++ rank_row name.now kind.now rank) }
+        ensures err { OnErr result (self.new ≡ []) }
+    {
+        let mut rank_text = Buffer::new();
+        self.put(&[name, kind, rank_text.format(rank).as_bytes()])
     }
 
     /// The rows' text, or want of memory, with which the rows are lost.

@@ -35,3 +35,15 @@ fn header_and_no_rows(rt: HostRuntime) -> Result<(), Fail> {
     assert!(rt; Rows::new(rt.alloc()).into_text()?.is_empty());
     Ok(())
 }
+
+#[test]
+fn ranks(rt: HostRuntime) -> Result<(), Fail> {
+    let mut rows = Rows::new(rt.alloc());
+    rows.put(&[b"unit", b"kind", b"rank"])?;
+    assert!(rt; rows.into_text()?.as_slice() == rank_header());
+    let mut rows = Rows::new(rt.alloc());
+    rows.put_rank(b"t1", b"tank", 0)?;
+    rows.put_rank(b"m_2", b"mixer", 16)?;
+    assert!(rt; rows.into_text()?.as_slice() == b"t1,tank,0\nm_2,mixer,16\n".as_slice());
+    Ok(())
+}
