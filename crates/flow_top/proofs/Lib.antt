@@ -1,4 +1,6 @@
+pub mod Judging
 pub mod Endings
 pub mod Causes
-pub mod TankRun
-pub mod TankRanked
+pub mod PlantRows
+pub mod RankRows
+pub mod StreamCount

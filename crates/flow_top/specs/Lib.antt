@@ -1,6 +1,8 @@
 pub mod Words
-pub mod TankPlant
+pub mod Judged
+pub mod Output
 pub mod Uses
+pub mod Lines
 pub mod Ended
 pub mod Stands
 pub mod Causes

@@ -1,28 +1,21 @@
 -- What stands after the call, for every status.
-use Rattle.std.specs.Prelude.{◌≡◌, ◌⊎◌, ℕ, ◌++◌, List, Result, Ok, Err, codes, decimal}
+use Rattle.std.specs.Prelude.{◌≡◌, ◌⊎◌, ℕ, List, Result, Ok, Err}
 use Rattle.flow_edge.specs.declared.status.Status.{Status}
 use Rattle.flow_edge.specs.declared.status.Status.TheVariants as status
 use Rattle.flow_top.specs.declared.fault.End.{End}
 use Rattle.flow_top.specs.declared.fault.End.TheVariants.{Fault, NoMemory}
+use Rattle.flow_top.specs.declared.fault.Refusal.{Refusal}
 use Rattle.flow_top.specs.declared.fault.TopFault.{TopFault}
-use Rattle.flow_top.specs.declared.fault.TopFault.TheVariants.{Words, NotBuilt, ReadPlant, WriteOut}
+use Rattle.flow_top.specs.declared.fault.TopFault.TheVariants.{Words, Refused, No, ReadPlant, WriteOut}
 use Rattle.flow_top.specs.Uses.{SourceUse, SinkUse, IsUnread, IsUnwritten, WasGiven, Broke}
 use Rattle.flow_top.specs.Ended.{Ended}
-
--- the error lines
-unfoldable pub fault_line : TopFault → List ℕ
-fault_line (Words at) = codes "flowrelax: words refused at " ++ decimal at ++ codes "\n"
-fault_line NotBuilt = codes "flowrelax: P0 not built yet text\n"
-fault_line ReadPlant = codes "flowrelax: read fault on plant\n"
-fault_line WriteOut = codes "flowrelax: write fault on out\n"
-
-unfoldable pub memory_line : List ℕ
-memory_line = codes "flowrelax: want of memory\n"
+use Rattle.flow_top.specs.Lines.{fault_line, refusal_line, memory_line}
 
 -- the status of each fault
 abbrev pub status_of : TopFault → Status
 status_of (Words at) = status.Words
-status_of NotBuilt = status.Refused
+status_of (Refused refusal) = status.Refused
+status_of (No refusal) = status.No
 status_of ReadPlant = status.ReadFault
 status_of WriteOut = status.WriteFault
 
@@ -34,9 +27,15 @@ SaidLine err line own result = (WasGiven err line × (result ≡ own)) ⊎ (Brok
 abbrev pub SaidMemory : SinkUse → Status → Type 0
 SaidMemory err result = SaidLine err memory_line status.NoMemory result
 
--- what was said of a fault: its line; of refused words, whose line takes memory, also the line of want of memory
+-- the line of a refusal was said, or that of want of memory
+abbrev pub SaidRefusal : Refusal → Status → SinkUse → Status → Type 0
+SaidRefusal refusal own err result = SaidLine err (refusal_line refusal) own result ⊎ SaidMemory err result
+
+-- what was said of a fault: its line; where the line takes memory, also the line of want of memory
 abbrev pub SaidFault : TopFault → SinkUse → Status → Type 0
 SaidFault (Words at) err result = SaidLine err (fault_line (Words at)) status.Words result ⊎ SaidMemory err result
+SaidFault (Refused refusal) err result = SaidRefusal refusal status.Refused err result
+SaidFault (No refusal) err result = SaidRefusal refusal status.No err result
 SaidFault fault err result = SaidLine err (fault_line fault) (status_of fault) result
 
 -- what was said of how the work ended

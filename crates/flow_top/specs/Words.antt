@@ -1,13 +1,23 @@
 -- The words of the command line.
-use Rattle.std.specs.Prelude.{ℕ, List, [], ◌∷◌, Option, Some, None, codes, bytes_eq, if◌then◌else◌}
+use Rattle.std.specs.Prelude.{ℕ, List, [], ◌∷◌, Option, Some, None, Result, Ok, Err, codes, bytes_eq, if◌then◌else◌}
+use Rattle.flow_top.specs.declared.words.Command.{Command}
+use Rattle.flow_top.specs.declared.words.Command.TheVariants.{Run, Check}
 
--- the position after the word `run` that does not fit: the next one, if there is one
-abbrev pub refused_after_run : List (List ℕ) → Option ℕ
-refused_after_run [] = None
-refused_after_run (word ∷ rest) = Some 2
+-- the command of this name
+abbrev pub command_named : List ℕ → Option Command
+command_named word =
+    if bytes_eq word (codes "run") then Some Run
+    else if bytes_eq word (codes "check") then Some Check
+    else None
 
--- The position of the first word that does not fit, counted from 1, or one past the last where a word is missing. There
--- is none where the only word is `run`.
-unfoldable pub refused_word : List (List ℕ) → Option ℕ
-refused_word [] = Some 1
-refused_word (word ∷ rest) = if bytes_eq word (codes "run") then refused_after_run rest else Some 1
+-- the command, where it stands alone; else the position of the first word that does not fit
+abbrev pub alone : Option Command → List (List ℕ) → Result Command ℕ
+alone None rest = Err 1
+alone (Some command) [] = Ok command
+alone (Some command) (word ∷ rest) = Err 2
+
+-- The command that the words are; or the position of the first word that does not fit, counted from 1, or one past the last
+-- where a word is missing.
+unfoldable pub command_in : List (List ℕ) → Result Command ℕ
+command_in [] = Err 1
+command_in (word ∷ rest) = alone (command_named word) rest

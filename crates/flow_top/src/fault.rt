@@ -1,17 +1,34 @@
-ghost use Rattle.std.specs.Prelude.{◌≡◌, IfOk};
-ghost use Rattle.flow_top.specs.Stands.{fault_line, memory_line};
+ghost use Rattle.std.specs.Prelude.{◌≡◌};
 ghost use Rattle.flow_top.specs.declared.fault.End.TheVariants.{NoMemory};
-ghost use Rattle.flow_top.specs.declared.fault.TopFault.TheVariants.{Words};
 
-use std::alloc::{AllocError, Global};
+use flow_file::TextFault;
+use plant::PlantFault;
+use std::alloc::AllocError;
 
-/// What goes wrong, one for each error line but that of want of memory.
-#[derive(Clone, Copy, Debug, PartialEq, Eq)]
+/// Why the plant source gives no plant of which the command can be done.
+#[derive(Debug, Drop)]
+pub enum Refusal {
+    /// It holds more than 1,048,576 bytes.
+    TooLong,
+    /// Its text is not a plant's.
+    Text(TextFault),
+    /// Its parts are no plant.
+    Plant(PlantFault),
+    /// It is to be run and has more ticks than its window, which is not built yet.
+    ManyWindows,
+    /// It is to be run and asks for widths, which are not built yet.
+    Widths,
+}
+
+/// What goes wrong, one for each error line and status but those of want of memory.
+#[derive(Debug, Drop)]
 pub enum TopFault {
     /// The word at this place does not fit.
     Words { at: u32 },
-    /// The plant is none that can be run yet.
-    NotBuilt,
+    /// The plant is refused.
+    Refused(Refusal),
+    /// The plant is checked, and its units have no ranks or one above the greatest.
+    No(Refusal),
     /// The plant could not be read.
     ReadPlant,
     /// The output could not be written.
@@ -19,7 +36,7 @@ pub enum TopFault {
 }
 
 /// Why the work ended before it was whole.
-#[derive(Clone, Copy, Debug, PartialEq, Eq)]
+#[derive(Debug, Drop)]
 pub enum End {
     Fault(TopFault),
     NoMemory,
@@ -33,18 +50,9 @@ impl From<AllocError> for End {
     }
 }
 
-/// The line of want of memory, which takes none.
-#[tactic(auto, unfolding(crate::specs::Stands::memory_line))]
-pub fn memory_line() -> &'static [u8]
-    ensures { result.now ≡ memory_line }
-{
-    b"flowrelax: want of memory\n"
-}
-
-/// The error line of refused words.
-#[tactic(auto, unfolding(crate::specs::Stands::fault_line))]
-pub fn words_line(alloc: Global, at: u32) -> Result<Vec<u8>, AllocError>
-    ensures { IfOk result (λ line. line.items ≡ fault_line (Words at)) }
-{
-    Ok(format!(in alloc; "flowrelax: words refused at {at}\n")?.into_bytes())
+/// Why there is no plant of which the command can be done.
+#[derive(Debug, Drop)]
+pub enum Unfit {
+    Refused(Refusal),
+    NoMemory,
 }

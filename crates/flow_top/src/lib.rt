@@ -3,12 +3,13 @@
 
 mod fault;
 mod laws;
-mod tank_rows;
+mod lines;
+mod rows;
 mod top;
 mod words;
 
-pub use fault::memory_line;
-pub use laws::{printed_bands_hold_trajectories, worked_bands};
+pub use laws::{judgements_are_unique, printed_bands_hold_trajectories, worked_bands};
+pub use lines::memory_line;
 pub use top::flow_top;
 
 #[cfg(test)]

@@ -94,11 +94,243 @@ const STEADY_OUTPUT: &str = "tick,stream,channel,lo,hi
 2,t1.level,value,1000,1000
 ";
 
+/// Two tanks in a ring, written against the flow: each opens the other's valve or fills it. The feed changes at tick 1.
+const RING: &str = r#"format = 1
+[run]
+ticks = 3
+window = 64
+[limits]
+flow = [0, 1000000]
+conc = [0, 1000000]
+temp = [0, 1000000]
+volume = [1, 1000000]
+signal = [0, 2000000]
+[[feed]]
+name = "f"
+kind = "material"
+flow = [[0, 10, 12], [1, 20, 20]]
+conc = 100
+temp = 300000
+[[feed]]
+name = "v"
+kind = "signal"
+value = 1000000
+[[unit]]
+name = "t1"
+kind = "tank"
+in = "t2.out"
+valve = "v"
+k = 10000
+volume = 1000
+flow = 10
+conc = 0
+temp = 290000
+[[unit]]
+name = "t2"
+kind = "tank"
+in = "f"
+valve = "t1.level"
+k = 500000
+volume = [1990, 2000]
+flow = 1
+conc = 5000
+temp = 300000
+limits = { volume = [1, 2010], signal = [0, 900] }
+"#;
+
+const RING_OUTPUT: &str = "tick,stream,channel,lo,hi
+0,f,flow,10,12
+0,f,conc,100,100
+0,f,temp,300000,300000
+0,v,value,1000000,1000000
+0,t1.out,flow,10,10
+0,t1.out,conc,0,0
+0,t1.out,temp,290000,290000
+0,t1.level,value,1000,1000
+0,t2.out,flow,1,1
+0,t2.out,conc,5000,5000
+0,t2.out,temp,300000,300000
+0,t2.level,value,900,900
+1,f,flow,20,20
+1,f,conc,100,100
+1,f,temp,300000,300000
+1,v,value,1000000,1000000
+1,t1.out,flow,10,10
+1,t1.out,conc,5,5
+1,t1.out,temp,290010,290010
+1,t1.level,value,991,991
+1,t2.out,flow,0,1
+1,t2.out,conc,4970,4975
+1,t2.out,temp,300000,300000
+1,t2.level,value,900,900
+2,f,flow,20,20
+2,f,conc,100,100
+2,f,temp,300000,300000
+2,v,value,1000000,1000000
+2,t1.out,flow,9,9
+2,t1.out,conc,5,10
+2,t1.out,temp,290010,290020
+2,t1.level,value,982,983
+2,t2.out,flow,0,0
+2,t2.out,conc,4921,4926
+2,t2.out,temp,300000,300000
+2,t2.level,value,900,900
+";
+
+/// The output where a splitter stands in the place of the tank: it halves the feed within the tick.
+const SPLIT_OUTPUT: &str = "tick,stream,channel,lo,hi
+0,f,flow,10,12
+0,f,conc,100,100
+0,f,temp,300000,300000
+0,v,value,1000000,1000000
+0,t1.first,flow,5,6
+0,t1.first,conc,100,100
+0,t1.first,temp,300000,300000
+0,t1.second,flow,5,6
+0,t1.second,conc,100,100
+0,t1.second,temp,300000,300000
+1,f,flow,10,12
+1,f,conc,100,100
+1,f,temp,300000,300000
+1,v,value,1000000,1000000
+1,t1.first,flow,5,6
+1,t1.first,conc,100,100
+1,t1.first,temp,300000,300000
+1,t1.second,flow,5,6
+1,t1.second,conc,100,100
+1,t1.second,temp,300000,300000
+2,f,flow,10,12
+2,f,conc,100,100
+2,f,temp,300000,300000
+2,v,value,1000000,1000000
+2,t1.first,flow,5,6
+2,t1.first,conc,100,100
+2,t1.first,temp,300000,300000
+2,t1.second,flow,5,6
+2,t1.second,conc,100,100
+2,t1.second,temp,300000,300000
+";
+
+/// What is written of the worked text's unit.
+const RANKS: &str = "unit,kind,rank
+t1,tank,0
+";
+
+/// A recycle through a tank, against the flow: the mixer and the splitter act at once, and the tank holds back.
+const RECYCLE: &str = r#"[[unit]]
+name = "s"
+kind = "splitter"
+in = "m.out"
+share = 500000
+[[unit]]
+name = "m"
+kind = "mixer"
+in = ["f", "t1.out"]
+[[unit]]
+name = "t1"
+kind = "tank"
+in = "s.second"
+"#;
+
+const RECYCLE_RANKS: &str = "unit,kind,rank
+s,splitter,2
+m,mixer,1
+t1,tank,0
+";
+
+/// A mixer and a splitter that feed one another, before the tank.
+const LOOP: &str = r#"value = 1000000
+[[unit]]
+name = "s"
+kind = "splitter"
+in = "m.out"
+share = 500000
+[[unit]]
+name = "m"
+kind = "mixer"
+in = ["f", "s.second"]
+"#;
+
+/// Sixteen splitters, one behind another.
+const SIXTEEN_RANKS: &str = "unit,kind,rank
+s1,splitter,1
+s2,splitter,2
+s3,splitter,3
+s4,splitter,4
+s5,splitter,5
+s6,splitter,6
+s7,splitter,7
+s8,splitter,8
+s9,splitter,9
+s10,splitter,10
+s11,splitter,11
+s12,splitter,12
+s13,splitter,13
+s14,splitter,14
+s15,splitter,15
+s16,splitter,16
+";
+
 const HEADER: &str = "tick,stream,channel,lo,hi\n";
 
-const NOT_BUILT: &str = "flowrelax: P0 not built yet text\n";
+const RANK_HEADER: &str = "unit,kind,rank\n";
 
 const WRITE_FAULT: &str = "flowrelax: write fault on out\n";
+
+/// The tank of the text after its name, and other units in its place.
+const TANK: &str = r#"kind = "tank"
+in = "f"
+valve = "v"
+k = 10000
+volume = 1000
+flow = 10
+conc = 0
+temp = 300000
+"#;
+
+const SPLITTER: &str = r#"kind = "splitter"
+in = "f"
+share = 500000
+"#;
+
+/// A reactor whose rate falls with the temperature: its points do not rise.
+const REACTOR: &str = r#"kind = "reactor"
+in = "f"
+valve = "v"
+jacket = "v"
+k = 10000
+rate = [[300000, 10], [290000, 20]]
+heat = 5
+ua = 100
+volume = 1000
+flow = 10
+conc = 0
+temp = 300000
+"#;
+
+/// A column through which the feed's greatest flow is more than a stage holds.
+const COLUMN: &str = r#"kind = "column"
+liquid = "f"
+vapour = "f"
+stages = 3
+holdup = 1000
+slope = 500000
+x = 100
+liquid_flow = 10
+liquid_temp = 300000
+vapour_flow = 10
+vapour_temp = 300000
+"#;
+
+/// The beginning of the text's one unit.
+const TANK_HEAD: &str = r#"[[unit]]
+name = "t1"
+kind = "tank"
+in = "f"
+"#;
+
+/// What stands before it.
+const UNITS: &str = "value = 1000000\n";
 
 /// What the plant source holds.
 #[derive(Clone, Copy)]
@@ -109,6 +341,8 @@ enum Plant {
     With(&'static str, &'static str),
     /// The text and a comment, of so many bytes.
     Padded(usize),
+    /// The text with so many splitters in the place of the tank, each behind the one before it.
+    Splitters(u32),
 }
 
 /// One call: what it is handed, and what has to come of it.
@@ -145,11 +379,25 @@ const RUN: Case = Case {
     faults: (0, 0),
 };
 
+/// The worked text's unit and its rank.
+const CHECK: Case = Case {
+    words: &["check"],
+    out: RANKS,
+    ..RUN
+};
+
 /// A plant that is refused.
 const REFUSED: Case = Case {
     status: Status::Refused,
     out: "",
-    err: NOT_BUILT,
+    ..RUN
+};
+
+/// A plant to which `check` answers No.
+const NO: Case = Case {
+    words: &["check"],
+    status: Status::No,
+    out: "",
     ..RUN
 };
 
@@ -178,7 +426,7 @@ const OUT_FAULT: Case = Case {
     ..RUN
 };
 
-static CASES: [Case; 19] = [
+static CASES: [Case; 36] = [
     RUN,
     Case {
         name: "feeds of one number",
@@ -192,23 +440,132 @@ static CASES: [Case; 19] = [
         ..RUN
     },
     Case {
+        name: "a ring",
+        plant: Plant::Text(RING),
+        out: RING_OUTPUT,
+        ..RUN
+    },
+    Case {
         name: "one byte more",
         plant: Plant::Padded(1_048_577),
+        err: "flowrelax: P1 too long\n",
         ..REFUSED
     },
     Case {
         name: "a short window",
         plant: Plant::With("window = 3", "window = 2"),
+        err: "flowrelax: P0 not built yet run.ticks\n",
         ..REFUSED
     },
     Case {
-        name: "no text",
-        plant: Plant::Text(""),
+        name: "a width",
+        plant: Plant::With("[limits]", "[width]\nflow = 5\n[limits]"),
+        err: "flowrelax: P0 not built yet width\n",
         ..REFUSED
     },
     Case {
         name: "no characters",
         plant: Plant::Bytes(b"# \xff\n"),
+        err: "flowrelax: P2 not TOML\n",
+        ..REFUSED
+    },
+    Case {
+        name: "no value",
+        plant: Plant::With("ticks = 3", "ticks ="),
+        err: "flowrelax: P2 not TOML\n",
+        ..REFUSED
+    },
+    Case {
+        name: "another format",
+        plant: Plant::With("format = 1", "format = -2"),
+        err: "flowrelax: P3 format -2\n",
+        ..REFUSED
+    },
+    Case {
+        name: "no text",
+        plant: Plant::Text(""),
+        err: "flowrelax: P4 missing format\n",
+        ..REFUSED
+    },
+    Case {
+        name: "no limits of a signal",
+        plant: Plant::With("signal = [0, 2000000]\n", ""),
+        err: "flowrelax: P4 missing limits.signal\n",
+        ..REFUSED
+    },
+    Case {
+        name: "a name for a number",
+        plant: Plant::With("k = 10000", "k = \"v\""),
+        err: "flowrelax: P5 wrong type unit[0].k\n",
+        ..REFUSED
+    },
+    Case {
+        name: "a key too many",
+        plant: Plant::With("value = 1000000", "value = 1000000\nflow = 1"),
+        err: "flowrelax: P6 unknown key feed[1].flow\n",
+        ..REFUSED
+    },
+    Case {
+        name: "more than all",
+        plant: Plant::With("k = 10000", "k = 1000001"),
+        err: "flowrelax: P7 out of range unit[0].k\n",
+        ..REFUSED
+    },
+    Case {
+        name: "a capital",
+        plant: Plant::With("name = \"v\"", "name = \"V\""),
+        err: "flowrelax: P8 bad name feed[1].name\n",
+        ..REFUSED
+    },
+    Case {
+        name: "nine inputs",
+        plant: Plant::With(
+            "\"tank\"\nin = \"f\"",
+            "\"mixer\"\nin = [\"f\", \"f\", \"f\", \"f\", \"f\", \"f\", \"f\", \"f\", \"f\"]",
+        ),
+        err: "flowrelax: P12 too many unit[0].in\n",
+        ..REFUSED
+    },
+    Case {
+        name: "a name twice",
+        plant: Plant::With("name = \"v\"", "name = \"f\""),
+        err: "flowrelax: P9 name twice f\n",
+        ..REFUSED
+    },
+    Case {
+        name: "no such stream",
+        plant: Plant::With("valve = \"v\"", "valve = \"t1.out2\""),
+        err: "flowrelax: P10 no source unit[0].valve\n",
+        ..REFUSED
+    },
+    Case {
+        name: "a stream for a signal",
+        plant: Plant::With("valve = \"v\"", "valve = \"f\""),
+        err: "flowrelax: P11 wrong port unit[0].valve\n",
+        ..REFUSED
+    },
+    Case {
+        name: "room for no volume",
+        plant: Plant::With("volume = [1, 1000000]", "volume = [0, 1000000]"),
+        err: "flowrelax: P13 bad limits limits.volume\n",
+        ..REFUSED
+    },
+    Case {
+        name: "an empty tank",
+        plant: Plant::With("volume = 1000\n", "volume = 0\n"),
+        err: "flowrelax: P14 start outside unit[0].volume\n",
+        ..REFUSED
+    },
+    Case {
+        name: "a late first piece",
+        plant: Plant::With("conc = 100\n", "conc = [[1, 100, 100]]\n"),
+        err: "flowrelax: P15 feed pieces feed[0].conc[0]\n",
+        ..REFUSED
+    },
+    Case {
+        name: "too salt a feed",
+        plant: Plant::With("conc = 100\n", "conc = 1000001\n"),
+        err: "flowrelax: P16 feed outside feed[0].conc\n",
         ..REFUSED
     },
     Case {
@@ -227,7 +584,7 @@ static CASES: [Case; 19] = [
     },
     Case {
         name: "another command",
-        words: &["check"],
+        words: &["relax"],
         ..WORDS
     },
     Case {
@@ -293,6 +650,121 @@ static CASES: [Case; 19] = [
     },
 ];
 
+/// Checks, and plants of several kinds of units.
+static KIND_CASES: [Case; 16] = [
+    Case {
+        name: "a splitter",
+        plant: Plant::With(TANK, SPLITTER),
+        out: SPLIT_OUTPUT,
+        ..RUN
+    },
+    Case {
+        name: "the ranks of a tank",
+        ..CHECK
+    },
+    Case {
+        name: "a recycle through a tank",
+        plant: Plant::With(TANK_HEAD, RECYCLE),
+        out: RECYCLE_RANKS,
+        ..CHECK
+    },
+    Case {
+        name: "a short window that is not judged",
+        plant: Plant::With("window = 3", "window = 2"),
+        ..CHECK
+    },
+    Case {
+        name: "a width that is not judged",
+        plant: Plant::With("[limits]", "[width]\nflow = 5\n[limits]"),
+        ..CHECK
+    },
+    Case {
+        name: "sixteen splitters",
+        plant: Plant::Splitters(16),
+        out: SIXTEEN_RANKS,
+        ..CHECK
+    },
+    Case {
+        name: "one splitter more",
+        plant: Plant::Splitters(17),
+        err: "flowrelax: P20 too deep s17\n",
+        ..NO
+    },
+    Case {
+        name: "a loop that is checked",
+        plant: Plant::With(UNITS, LOOP),
+        err: "flowrelax: P19 instant loop s\n",
+        ..NO
+    },
+    Case {
+        name: "a loop that nobody hears of",
+        plant: Plant::With(UNITS, LOOP),
+        failing_err_writes: &[1],
+        status: Status::WriteFault,
+        faults: (0, 1),
+        ..NO
+    },
+    Case {
+        name: "a loop that is to be run",
+        plant: Plant::With(UNITS, LOOP),
+        err: "flowrelax: P19 instant loop s\n",
+        ..REFUSED
+    },
+    Case {
+        name: "too deep to be run",
+        plant: Plant::Splitters(17),
+        err: "flowrelax: P20 too deep s17\n",
+        ..REFUSED
+    },
+    Case {
+        name: "no source for what is checked",
+        words: &["check"],
+        plant: Plant::With("valve = \"v\"", "valve = \"w\""),
+        err: "flowrelax: P10 no source unit[0].valve\n",
+        ..REFUSED
+    },
+    Case {
+        name: "a table that falls",
+        plant: Plant::With(TANK, REACTOR),
+        err: "flowrelax: P17 table falls unit[0].rate[1]\n",
+        ..REFUSED
+    },
+    Case {
+        name: "a small column",
+        plant: Plant::With(TANK, COLUMN),
+        err: "flowrelax: P18 column too fast t1\n",
+        ..REFUSED
+    },
+    Case {
+        name: "a word too many to check",
+        words: &["check", "run"],
+        err: "flowrelax: words refused at 2\n",
+        ..WORDS
+    },
+    Case {
+        name: "ranks that cannot be written",
+        words: &["check"],
+        failing_writes: &[2],
+        out: RANK_HEADER,
+        ..OUT_FAULT
+    },
+];
+
+/// The text with so many splitters in the place of the tank.
+fn splitters(alloc: Global, count: u32) -> Result<Vec<u8>, Fail> {
+    let (before, _) = PLANT.split_once("[[unit]]").ok_or("the text has no unit")?;
+    let mut text = Vec::from_slice(alloc, before.as_bytes())?;
+    let mut input = format!(in alloc; "f")?;
+    for number in 1..=count {
+        let unit = format!(in alloc;
+            "[[unit]]\nname = \"s{number}\"\nkind = \"splitter\"\nin = \"{input}\"\nshare = 1000000\n"
+        )?;
+        text.extend_from_slice(unit.as_bytes())?;
+        input = format!(in alloc; "s{number}.first")?;
+    }
+    Ok(text)
+}
+
 fn plant_text(alloc: Global, plant: Plant) -> Result<Vec<u8>, Fail> {
     match plant {
         Plant::Text(text) => Ok(Vec::from_slice(alloc, text.as_bytes())?),
@@ -303,6 +775,7 @@ fn plant_text(alloc: Global, plant: Plant) -> Result<Vec<u8>, Fail> {
                 .ok_or("the text does not have the phrase")?;
             Ok(format!(in alloc; "{before}{new}{after}")?.into_bytes())
         }
+        Plant::Splitters(count) => splitters(alloc, count),
         Plant::Padded(length) => {
             let mut text = Vec::from_slice(alloc, PLANT.as_bytes())?;
             text.push(b'#')?;
@@ -357,6 +830,14 @@ fn try_case<R: Abort + Threads + Sync>(rt: &R, alloc: Global, case: &Case) -> Re
 #[test]
 fn ends_each_call_as_it_should(rt: HostRuntime) -> Result<(), Fail> {
     for case in &CASES {
+        try_case(&rt, rt.alloc(), case)?;
+    }
+    Ok(())
+}
+
+#[test]
+fn ends_calls_of_all_kinds_as_it_should(rt: HostRuntime) -> Result<(), Fail> {
+    for case in &KIND_CASES {
         try_case(&rt, rt.alloc(), case)?;
     }
     Ok(())

@@ -1,0 +1,48 @@
+-- One tick more of a plant's rows.
+use Rattle.std.proofs.Common.{◌≡◌, ℕ, zero, suc, ◌+◌, ◌<◌, List, [], ◌∷◌, ◌++◌, length, refl, sym, ap, ◌∙◌, append_assoc}
+use Rattle.std.proofs.Common.{append-nil, add-one, flat_map, arith}
+use Rattle.std.specs.List.{range_with_len}
+use Rattle.std.proofs.lemmas.List.{length-map}
+use Rattle.quant.specs.Interval.{Interval}
+use Rattle.parts.specs.Parts.{FileParts}
+use Rattle.plant.specs.declared.streams.Stream.{Stream}
+use Rattle.plant.specs.Streams.{streams_of}
+use Rattle.plant.specs.Rows.{streams_of_run}
+use Rattle.report.specs.Output.{Label, rows_of, rows_from, stream_rows, tick_rows}
+use Rattle.flow_top.specs.Output.{labels_of}
+
+abbrev pub label_of : Stream → Label
+label_of stream = record { name = stream.name; signal = stream.signal }
+
+-- streams with the same bands have the same rows
+rows_from-same : (tick : ℕ) (a b : ℕ → List Interval) (s : ℕ) (labels : List Label) →
+    ((k : ℕ) → k < s + length labels → a k ≡ b k) →
+    rows_from tick a s labels ≡ rows_from tick b s labels
+rows_from-same tick a b s [] same = refl
+rows_from-same tick a b s (label ∷ rest) same =
+    ap (λ bands. stream_rows tick label bands ++ rows_from tick a (s + 1) rest) (same s (omega arith))
+    ∙ ap (λ text. stream_rows tick label (b s) ++ text) (rows_from-same tick a b (s + 1) rest (λ k h. same k (omega arith)))
+
+-- the rows of one tick more
+rows-ticks : (labels : List Label) (bands : ℕ → ℕ → List Interval) (first n : ℕ) →
+    flat_map (tick_rows labels bands) (range_with_len first (suc n)) ≡ flat_map (tick_rows labels bands) (range_with_len first n) ++ tick_rows labels bands (first + n)
+rows-ticks labels bands first zero = append-nil (tick_rows labels bands first) ∙ ap (tick_rows labels bands) (omega arith)
+rows-ticks labels bands first (suc n) =
+    ap (λ text. tick_rows labels bands first ++ text) (rows-ticks labels bands (first + 1) n)
+    ∙ sym (append_assoc (tick_rows labels bands first) (flat_map (tick_rows labels bands) (range_with_len (first + 1) n)) (tick_rows labels bands (first + 1 + n)))
+    ∙ ap (λ t. (tick_rows labels bands first ++ flat_map (tick_rows labels bands) (range_with_len (first + 1) n)) ++ tick_rows labels bands t) (omega arith)
+
+-- the rows of a tick of the run were added to those of the ticks before
+pub rows-more : (parts : FileParts) (tick : ℕ) (bands : ℕ → List Interval) (before after : List ℕ) →
+    ((s : ℕ) → s < length (streams_of parts) → bands s ≡ streams_of_run parts tick s) →
+    before ≡ rows_of (labels_of parts) (streams_of_run parts) 0 tick →
+    after ≡ before ++ rows_from tick bands 0 (labels_of parts) →
+    after ≡ rows_of (labels_of parts) (streams_of_run parts) 0 (tick + 1)
+rows-more parts tick bands before after same rows added =
+    let counted : length (labels_of parts) ≡ length (streams_of parts) = length-map (streams_of parts) label_of in
+    added
+    ∙ ap (λ text. before ++ text) (rows_from-same tick bands (streams_of_run parts tick) 0 (labels_of parts) (λ s h. same s (omega arith)))
+    ∙ ap (λ text. text ++ tick_rows (labels_of parts) (streams_of_run parts) tick) rows
+    ∙ ap (λ t. rows_of (labels_of parts) (streams_of_run parts) 0 tick ++ tick_rows (labels_of parts) (streams_of_run parts) t) (omega arith)
+    ∙ sym (rows-ticks (labels_of parts) (streams_of_run parts) 0 tick)
+    ∙ ap (rows_of (labels_of parts) (streams_of_run parts) 0) (sym (add-one tick))
