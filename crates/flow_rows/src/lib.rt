@@ -1,0 +1,13 @@
+//! Whole runs: plant texts given to the program's one call, and what it says of them. It has tests alone.
+#![tactic(auto)]
+
+#[cfg(test)]
+mod cases;
+#[cfg(test)]
+mod mixed;
+#[cfg(test)]
+mod runs;
+#[cfg(test)]
+mod sizes;
+#[cfg(test)]
+mod units;
