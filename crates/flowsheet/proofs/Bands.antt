@@ -1,7 +1,7 @@
 -- Bands that lie in one another, and bands of one number.
-use Rattle.std.proofs.Common.{◌≡◌, ℤ, List, [], ◌∷◌, refl, ap, ◌∙◌, subst, arith}
+use Rattle.std.proofs.Common.{◌≡◌, ℤ, List, [], ◌∷◌, map, refl, ap, ◌∙◌, subst, arith}
 use Rattle.std.proofs.lemmas.Int.{ints}
-use Rattle.quant.specs.Interval.{Interval, Holds, IsInside, AllHold, AllInside, point, points}
+use Rattle.quant.specs.Interval.{Interval, Holds, IsBand, IsInside, AllHold, AllInside, AllBands, point, points}
 
 -- bands lie in themselves
 pub inside-itself : (As : List Interval) → AllInside As As
@@ -40,3 +40,25 @@ points-hold_only (z ∷ zs) (x ∷ xs) h = ap (λ a. a ∷ zs) (point-holds z x 
 -- so bands that are points are the numbers that they hold
 pub points-hold_alone : (As : List Interval) (zs xs : List ℤ) → As ≡ points zs → AllHold As xs → As ≡ points xs
 points-hold_alone As zs xs e h = e ∙ ap points (points-hold_only zs xs (subst (λ Bs. AllHold Bs xs) e h))
+
+-- the low ends of bands
+abbrev pub low_ends : List Interval → List ℤ
+low_ends As = map (λ (A : Interval). A.lo) As
+
+-- the low end of a band lies in it
+low-holds : (A : Interval) → IsBand A → Holds A A.lo
+low-holds A h = record { above = omega (arith, ints); below = h.ordered }
+
+-- so do those of a list of bands
+pub low_ends-hold : (As : List Interval) → AllBands As → AllHold As (low_ends As)
+low_ends-hold [] h = tt
+low_ends-hold (A ∷ As) h = (low-holds A h.0, low_ends-hold As h.1)
+
+-- bands of one number each are bands
+points-bands : (zs : List ℤ) → AllBands (points zs)
+points-bands [] = tt
+points-bands (z ∷ zs) = (record { ordered = omega (arith, ints) }, points-bands zs)
+
+-- so bands that are points have numbers in them
+pub points-are_bands : (As : List Interval) (zs : List ℤ) → As ≡ points zs → AllBands As
+points-are_bands As zs e = rw e (points-bands zs)

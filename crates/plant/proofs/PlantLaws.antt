@@ -52,8 +52,9 @@ parts-ranked parts plant = all-ranked parts (plant-sound parts plant) plant.rank
 pub parts-limited : (parts : FileParts) → IsPlant parts → IsLimited (plant_of parts) (carried_of parts)
 parts-limited parts plant = all-limited parts (plant-sound parts plant)
 
-pub parts-bands : (parts : FileParts) → IsPlant parts → AreBands (carried_of parts) (given_bands parts)
-parts-bands parts plant = all-bands parts plant.ranges (plant-sound parts plant)
+pub parts-bands : (parts : FileParts) (n : ℕ) → IsPlant parts →
+    AreBands (plant_of parts) (carried_of parts) (given_bands parts) n
+parts-bands parts n plant = all-bands parts n plant.ranges (plant-sound parts plant)
 
 pub parts-fed : (parts : FileParts) → IsPlant parts →
     (tick f : ℕ) → f < length parts.feeds → AllInside (given_bands parts tick f) (slice_index_or (all_limits parts) f [])

@@ -28,10 +28,11 @@ openings-band parts i u [] h = tt
 openings-band parts i zero (x ∷ units) h = (h.0).bands
 openings-band parts i (suc u) (x ∷ units) h = openings-band parts (suc i) u units h.1
 
-pub all-bands : (parts : FileParts) → AreInRange parts → ArePartsSound parts → AreBands (carried_of parts) (given_bands parts)
-all-bands parts ranges sound = record {
-  states = λ u. openings-band parts 0 u (units_of parts) sound.units;
-  fed = given-bands parts ranges;
+pub all-bands : (parts : FileParts) (n : ℕ) → AreInRange parts → ArePartsSound parts →
+    AreBands (plant_of parts) (carried_of parts) (given_bands parts) n
+all-bands parts n ranges sound = record {
+  states = λ u l. openings-band parts 0 u (units_of parts) sound.units;
+  fed = λ t s f m l e. given-bands parts ranges t f;
 }
 
 -- inside their limits

@@ -26,7 +26,8 @@ pub fn verdicts_are_unique()
 pub fn built_plants_are_plants()
     ensures ranked { (parts : FileParts) → IsPlant parts → IsRanked (plant_of parts) }
     ensures limited { (parts : FileParts) → IsPlant parts → IsLimited (plant_of parts) (carried_of parts) }
-    ensures bands { (parts : FileParts) → IsPlant parts → AreBands (carried_of parts) (given_bands parts) }
+    ensures bands { (parts : FileParts) (n : ℕ) → IsPlant parts →
+        AreBands (plant_of parts) (carried_of parts) (given_bands parts) n }
     ensures fed { (parts : FileParts) → IsPlant parts →
         (tick f : ℕ) → f < length parts.feeds → AllInside (given_bands parts tick f) (slice_index_or (all_limits parts) f []) }
 {}

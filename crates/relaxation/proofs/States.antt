@@ -12,7 +12,7 @@ use Rattle.flowsheet.proofs.Bands.{inside-itself}
 use Rattle.flowsheet.proofs.Ranks.{source, from_feed, from_port, unit_there}
 use Rattle.flowsheet.proofs.Readings.{AreBandsIn, bands-kept}
 use Rattle.flowsheet.proofs.Renewals.{stream-renewed}
-use Rattle.flowsheet.proofs.Runs.{streams-related}
+use Rattle.flowsheet.proofs.Runs.{streams-bands}
 use Rattle.relaxation.specs.Tube.{Tube, IsWithin, IsNarrower, HasNumbers, meet, at}
 use Rattle.relaxation.specs.Window.{Window, IsOpen, renewal, run_tube, row_of}
 use Rattle.relaxation.specs.Core.{Versions, Step, versions_of, last_of, IsLegal, is_idle, after_step, replay, AreLegal, version_at, named, AreThere, origin_renewal, step_renewal, IsLegalFrom, opening_versions}
@@ -28,14 +28,12 @@ module _ (window : Window) (is : IsOpen window) where
   run_at t s = run_streams (on_bands window.plant) window.plant window.carried window.feeds t s
 
   -- they have numbers
-  pub run-bands : (t s : ℕ) → s < length window.plant.streams → AllBands (run_at t s)
-  run-bands t s l = (streams-related window.plant window.carried window.feeds window.carried window.feeds (bands-kept window.plant.rounding) is.ranked
-      (λ u. record { bands = is.bands.states u; inside = inside-itself (window.carried u) })
-      (λ q f. record { bands = is.bands.fed q f; inside = inside-itself (window.feeds q f) }) t s l).bands
+  pub run-bands : (t s : ℕ) → t < window.ticks → s < length window.plant.streams → AllBands (run_at t s)
+  run-bands = streams-bands window.plant window.carried window.feeds window.ticks is.ranked is.bands
 
   -- and so does the run's tube
   pub run-numbers : (s : ℕ) → s < length window.plant.streams → HasNumbers (run_tube window s)
-  run-numbers s l = tube-numbers (λ t. run_at t s) window.ticks (λ t m. run-bands t s l)
+  run-numbers s l = tube-numbers (λ t. run_at t s) window.ticks (λ t m. run-bands t s m l)
 
   -- a tube that holds the run does at each tick
   pub run-inside : (s t : ℕ) (A : Tube) → t < window.ticks → IsWithin (run_tube window s) A → AllInside (run_at t s) (at A t)
@@ -70,7 +68,7 @@ module _ (window : Window) (is : IsOpen window) where
         AreThere state reads numbers → AreBandsIn (flat_map (run_at t) reads) (row_of (named state reads numbers) t)
     row-holds t reads numbers m streams there = row-related (bands-kept window.plant.rounding) (run_at t) [] state t reads numbers
         (newest_none reads numbers) there (λ q k c new l. record {
-          bands = run-bands t q (streams q c);
+          bands = run-bands t q m (streams q c);
           inside = run-inside q t (version_at state q k) m (version-holds q k (streams q c) l);
         })
 
@@ -83,7 +81,7 @@ module _ (window : Window) (is : IsOpen window) where
           let v : u < length window.plant.units = unit_there window.plant step.stream u p is.ranked legal.stream e in
           tube-within (λ t. run_at t step.stream) _ window.ticks (λ t m. (stream-renewed window.plant window.carried window.feeds u (window.carried u)
           (row_of (named state (unit_at window.plant u).reads step.inputs)) (bands-kept window.plant.rounding) is.ranked
-          (record { bands = is.bands.states u; inside = inside-itself (window.carried u) }) t step.stream p legal.stream e
+          (record { bands = is.bands.states u v; inside = inside-itself (window.carried u) }) t step.stream p legal.stream e
           (λ q k. row-holds q (unit_at window.plant u).reads step.inputs (omega arith) (λ r c. is.ranked.reads u r v c) there)
           (λ i. row-holds t (unit_at window.plant u).reads step.inputs m (λ r c. is.ranked.reads u r v c) there)).inside)
 

@@ -68,7 +68,7 @@ worked-opening (suc (suc (suc (suc s)))) f l e = absurd (omega arith)
 pub worked-open : IsOpen window
 worked-open = record {
   ranked = worked-ranked;
-  bands = record { states = worked-carried; fed = worked-fed };
+  bands = record { states = λ u l. worked-carried u; fed = λ t s f m l e. worked-fed t f };
   holds = worked-holds;
   fed = worked-opening;
 }

@@ -23,7 +23,7 @@ run_tube window s = tube_of (λ t. run_streams (on_bands window.plant) window.pl
 -- A window that can be relaxed: the opening tubes hold the run, and those of feeds are the feeds' bands.
 pub record IsOpen (window : Window) : Type 0 where
   pub ranked : IsRanked window.plant
-  pub bands : AreBands window.carried window.feeds
+  pub bands : AreBands window.plant window.carried window.feeds window.ticks
   pub holds : (s : ℕ) → s < length window.plant.streams → IsWithin (run_tube window s) (window.opening s)
   pub fed : (s f : ℕ) → s < length window.plant.streams → origin_of window.plant s ≡ feed f →
       window.opening s ≡ tube_of (λ t. window.feeds t f) window.ticks
