@@ -6,13 +6,15 @@ use Rattle.quant.specs.Term.{interval}
 use Rattle.flowsheet.specs.Plant.{Plant, PlantUnit, feed, unit_at, origin_of}
 use Rattle.flowsheet.specs.Reading.{shown, stepped}
 
--- Each band that is carried into a unit that is there, or fed to a stream that is there at one of n ticks, has a number in it.
+-- Each band that is carried into a unit that is there, or fed to a stream that is there at one of n ticks, has a number
+-- in it.
 pub record AreBands (plant : Plant) (carried : ℕ → List Interval) (feeds : ℕ → ℕ → List Interval) (n : ℕ) : Type 0 where
   pub states : (u : ℕ) → u < length plant.units → AllBands (carried u)
   pub fed : (t s f : ℕ) → t < n → s < length plant.streams → origin_of plant s ≡ feed f → AllBands (feeds t f)
 
 -- each of them is one number
-pub record ArePoints (plant : Plant) (carried : ℕ → List Interval) (feeds : ℕ → ℕ → List Interval) (n : ℕ) : Type 0 where
+pub record ArePoints (plant : Plant) (carried : ℕ → List Interval) (feeds : ℕ → ℕ → List Interval) (n : ℕ) :
+    Type 0 where
   pub states : (u : ℕ) → u < length plant.units → (zs : List ℤ) × (carried u ≡ points zs)
   pub fed : (t s f : ℕ) → t < n → s < length plant.streams → origin_of plant s ≡ feed f →
       (zs : List ℤ) × (feeds t f ≡ points zs)

@@ -20,8 +20,8 @@ pub fn trajectories_lie_in_the_run()
         AllHold (run_states (on_bands plant) plant carried feeds t u) (y t u) }
 {}
 
-/// There is a trajectory wherever the bands that are carried in and fed have numbers in them, so also where each of them is
-/// one number.
+/// There is a trajectory wherever the bands that are carried in and fed have numbers in them, so also where each of them
+/// is one number.
 pub fn trajectories_exist()
     ensures bands { (plant : Plant) (carried : ℕ → List Interval) (feeds : ℕ → ℕ → List Interval) (n : ℕ) →
         IsRanked plant → AreBands plant carried feeds n →
@@ -49,8 +49,8 @@ pub fn points_run_alone()
         run_states (on_bands plant) plant carried feeds t u ≡ points (y t u) }
 {}
 
-/// A run from bands that have numbers in them has such bands, in its streams at n ticks and in its states up to the end of
-/// the last.
+/// A run from bands that have numbers in them has such bands, in its streams at n ticks and in its states up to the end
+/// of the last.
 pub fn the_run_has_bands()
     ensures streams { (plant : Plant) (carried : ℕ → List Interval) (feeds : ℕ → ℕ → List Interval) (n : ℕ) →
         IsRanked plant → AreBands plant carried feeds n →
@@ -90,7 +90,7 @@ pub fn renewals_hold_the_run()
         (rows : ℕ → List Interval) →
         IsRanked plant → AreBands plant carried feeds n → u < length plant.units →
         ((t : ℕ) → t < n →
-            AllInside (inputs_of (unit_at plant u) (run_streams (on_bands plant) plant carried feeds t)) (rows t)) →
+        AllInside (inputs_of (unit_at plant u) (run_streams (on_bands plant) plant carried feeds t)) (rows t)) →
         (t : ℕ) → t ≤ n →
         AllInside (run_states (on_bands plant) plant carried feeds t u)
         (renewed_states (on_bands plant) (unit_at plant u) (carried u) rows t) }
@@ -98,7 +98,7 @@ pub fn renewals_hold_the_run()
         (rows : ℕ → List Interval) →
         IsRanked plant → AreBands plant carried feeds n →
         ((t : ℕ) → t < n →
-            AllInside (inputs_of (unit_at plant u) (run_streams (on_bands plant) plant carried feeds t)) (rows t)) →
+        AllInside (inputs_of (unit_at plant u) (run_streams (on_bands plant) plant carried feeds t)) (rows t)) →
         (t s p : ℕ) → t < n → s < length plant.streams → origin_of plant s ≡ port u p →
         AllInside (run_streams (on_bands plant) plant carried feeds t s)
         (renewed (on_bands plant) (unit_at plant u) p (carried u) rows t) }
@@ -111,21 +111,21 @@ pub fn quiet_tubes_lie_in_the_run()
         IsRanked plant → AreBands plant carried feeds n →
         ((t s : ℕ) → t < n → s < length plant.streams → AllBands (tubes t s)) →
         ((t s f : ℕ) → t < n → s < length plant.streams → origin_of plant s ≡ feed f →
-            AllInside (tubes t s) (feeds t f)) →
+        AllInside (tubes t s) (feeds t f)) →
         ((t s : ℕ) → t < n → s < length plant.streams →
-            AllInside (tubes t s) (renewed_stream (on_bands plant) plant carried tubes t s)) →
+        AllInside (tubes t s) (renewed_stream (on_bands plant) plant carried tubes t s)) →
         (t s : ℕ) → t < n → s < length plant.streams →
         AllInside (tubes t s) (run_streams (on_bands plant) plant carried feeds t s) }
 {}
 
-/// Inputs that are the run's at the ticks before, and for an instant unit at this tick too, give the run's bands at this
-/// tick.
+/// Inputs that are the run's at the ticks before, and for an instant unit at this tick too, give the run's bands at
+/// this tick.
 pub fn one_place_at_a_time()
     ensures { (plant : Plant) (carried : ℕ → List Interval) (feeds : ℕ → ℕ → List Interval) (rows : ℕ → List Interval)
         (t s u p : ℕ) → IsRanked plant → s < length plant.streams → origin_of plant s ≡ port u p →
         ((q : ℕ) → q < t → rows q ≡ inputs_of (unit_at plant u) (run_streams (on_bands plant) plant carried feeds q)) →
         ((unit_at plant u).instant ≡ true →
-            rows t ≡ inputs_of (unit_at plant u) (run_streams (on_bands plant) plant carried feeds t)) →
+        rows t ≡ inputs_of (unit_at plant u) (run_streams (on_bands plant) plant carried feeds t)) →
         renewed (on_bands plant) (unit_at plant u) p (carried u) rows t
         ≡ run_streams (on_bands plant) plant carried feeds t s }
 {}

@@ -21,22 +21,24 @@ pub fn verdicts_are_unique()
     ensures { (parts : FileParts) (one other : Checked) → IsVerdict parts one → IsVerdict parts other → one ≡ other }
 {}
 
-/// The parts of a built plant are a plant of the definitions: its ranks are right, its units keep their limits, and its feeds are
-/// bands inside theirs.
+/// The parts of a built plant are a plant of the definitions: its ranks are right, its units keep their limits, its
+/// bands have numbers in them, and its feeds are inside their limits.
 pub fn built_plants_are_plants()
     ensures ranked { (parts : FileParts) → IsPlant parts → IsRanked (plant_of parts) }
     ensures limited { (parts : FileParts) → IsPlant parts → IsLimited (plant_of parts) (carried_of parts) }
     ensures bands { (parts : FileParts) (n : ℕ) → IsPlant parts →
         AreBands (plant_of parts) (carried_of parts) (given_bands parts) n }
     ensures fed { (parts : FileParts) → IsPlant parts →
-        (tick f : ℕ) → f < length parts.feeds → AllInside (given_bands parts tick f) (slice_index_or (all_limits parts) f []) }
+        (tick f : ℕ) → f < length parts.feeds →
+        AllInside (given_bands parts tick f) (slice_index_or (all_limits parts) f []) }
 {}
 
 /// Steps that begin with the opening states, each from the bands that are given at its tick, make the interval run.
 pub fn direct_steps_make_the_run()
     ensures opening { (parts : FileParts) → IsPlant parts → HasStatesOf parts 0 (opening_row parts) }
     ensures streams { (parts : FileParts) (tick : ℕ) (before after : RowBands) → IsPlant parts →
-        HasStatesOf parts tick before → HasFeedsOf parts tick before → IsStep parts before after → HasStreamsOf parts tick after }
+        HasStatesOf parts tick before → HasFeedsOf parts tick before → IsStep parts before after →
+        HasStreamsOf parts tick after }
     ensures states { (parts : FileParts) (tick : ℕ) (before after : RowBands) → IsPlant parts →
         HasStatesOf parts tick before → HasFeedsOf parts tick before → IsStep parts before after →
         HasStatesOf parts (suc tick) after }

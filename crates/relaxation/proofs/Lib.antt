@@ -5,7 +5,9 @@ pub mod Chains
 pub mod Rows
 pub mod States
 pub mod Quiet
+pub mod Stays
 pub mod Growth
+pub mod LastSteps
 pub mod Places
 pub mod Sweeps
 pub mod Counts
@@ -16,3 +18,5 @@ pub mod Gathers
 pub mod Reached
 pub mod Adopted
 pub mod Worked
+pub mod WorkedSweep
+pub mod WorkedHistories

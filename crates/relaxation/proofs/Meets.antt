@@ -21,14 +21,14 @@ inside-test : (A B : Interval) → IsInside A B → (int_le B.lo A.lo && int_le 
 inside-test A B h = grind (arith, ints)
 
 -- the test of two lists of bands says the same
-all_inside-yes : (As Bs : List Interval) → all_inside As Bs ≡ true → AllInside As Bs
+pub all_inside-yes : (As Bs : List Interval) → all_inside As Bs ≡ true → AllInside As Bs
 all_inside-yes [] [] e = tt
 all_inside-yes [] (B ∷ Bs) e = cc
 all_inside-yes (A ∷ As) [] e = cc
 all_inside-yes (A ∷ As) (B ∷ Bs) e = (inside-yes A B (and_parts _ _ e).0, all_inside-yes As Bs (and_parts _ _ e).1)
 
 -- and is passed
-all_inside-test : (As Bs : List Interval) → AllInside As Bs → all_inside As Bs ≡ true
+pub all_inside-test : (As Bs : List Interval) → AllInside As Bs → all_inside As Bs ≡ true
 all_inside-test [] [] h = refl
 all_inside-test [] (B ∷ Bs) h = absurd h
 all_inside-test (A ∷ As) [] h = absurd h

@@ -15,7 +15,7 @@ use Rattle.flowsheet.proofs.Renewals.{stream-renewed}
 use Rattle.flowsheet.proofs.Runs.{streams-bands}
 use Rattle.relaxation.specs.Tube.{Tube, IsWithin, IsNarrower, HasNumbers, meet, at}
 use Rattle.relaxation.specs.Window.{Window, IsOpen, renewal, run_tube, row_of}
-use Rattle.relaxation.specs.Core.{Versions, Step, versions_of, last_of, IsLegal, is_idle, after_step, replay, AreLegal, version_at, named, AreThere, origin_renewal, step_renewal, IsLegalFrom, opening_versions}
+use Rattle.relaxation.specs.Core.{Versions, Step, versions_of, last_of, IsLegal, is_idle, after_step, replay, AreLegal, version_at, named, AreThere, origin_renewal, step_renewal, IsLegalFrom, opening_versions, reached}
 use Rattle.relaxation.proofs.Meets.{within-yes, within-test, meet-wider, meet-holds, meet-left, meet-right, numbers-wider}
 use Rattle.relaxation.proofs.Ticks.{at-tube_of, within-at, tube-within, tube-numbers}
 use Rattle.relaxation.proofs.Sequences.{after-idle, after-narrows, versions-elsewhere}
@@ -158,5 +158,6 @@ module _ (window : Window) (is : IsOpen window) where
   replay-kept state (step ∷ steps) kept legal = replay-kept (after_step window state step) steps (step-kept state kept step legal.0) legal.1
 
   -- also from the opening tubes on
-  pub reached-kept : (steps : List Step) → AreLegal window (opening_versions window) steps → KeepsRun (replay window (opening_versions window) steps)
+  pub reached-kept : (steps : List Step) → AreLegal window (opening_versions window) steps →
+      KeepsRun (reached window steps)
   reached-kept steps legal = replay-kept (opening_versions window) steps opening-kept legal

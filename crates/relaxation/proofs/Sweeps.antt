@@ -1,6 +1,5 @@
 -- Each sweep makes the last versions the run at one place more.
-use Rattle.std.proofs.Common.{◌≡◌, ℕ, zero, suc, ◌+◌, ◌-◌, ◌<◌, ◌≤◌, List, [], ◌∷◌, length, sym, ap, ◌∙◌, subst, arith, inl, inr, refl, map, Contains}
-use Rattle.std.proofs.lemmas.Bool.{cases_Bool}
+use Rattle.std.proofs.Common.{◌≡◌, ℕ, zero, suc, ◌+◌, ◌-◌, ◌<◌, ◌≤◌, List, [], ◌∷◌, length, sym, ◌∙◌, subst, arith, inl, inr, refl, map, Contains}
 use Rattle.flowsheet.specs.Plant.{port, unit_at, origin_of, rank_of}
 use Rattle.flowsheet.specs.Reading.{on_bands, inputs_of}
 use Rattle.flowsheet.specs.Renewal.{renewed}
@@ -8,30 +7,16 @@ use Rattle.flowsheet.proofs.Ranks.{source, from_feed, from_port, unit_there, rea
 use Rattle.flowsheet.proofs.Readings.{same-kept}
 use Rattle.relaxation.specs.Tube.{IsWithin, at}
 use Rattle.relaxation.specs.Window.{Window, IsOpen, renewal, run_tube, row_of}
-use Rattle.relaxation.specs.Core.{Versions, Step, versions_of, last_of, IsLegal, is_idle, after_step, replay, AreLegal, version_at, named, AreThere, origin_renewal, step_renewal, IsLegalFrom}
+use Rattle.relaxation.specs.Core.{Versions, Step, versions_of, last_of, IsLegal, after_step, replay, AreLegal, version_at, named, AreThere, origin_renewal, step_renewal, IsLegalFrom}
 use Rattle.relaxation.specs.Sweep.{AreSweeps, replay_sweeps, place, IsRunBelow, AreNewest, ReadsNewest, IsSweep}
-use Rattle.relaxation.proofs.Meets.{within-yes, meet-right}
 use Rattle.relaxation.proofs.Ticks.{at-tube_of}
-use Rattle.relaxation.proofs.Sequences.{after-idle}
-use Rattle.relaxation.proofs.Chains.{newest, push-newest, versions-fall}
+use Rattle.relaxation.proofs.Chains.{versions-fall}
 use Rattle.relaxation.proofs.Rows.{row-related}
-use Rattle.relaxation.proofs.States.{run_at, KeepsRun, version-holds, last-holds, renewal-holds, step_meet, pushed-here, step-kept, replay-kept}
-use Rattle.relaxation.proofs.Growth.{AreGrown, grown_itself, grown_through, step-grown, replay-grown}
+use Rattle.relaxation.proofs.States.{run_at, KeepsRun, version-holds, last-holds, step-kept, replay-kept}
+use Rattle.relaxation.proofs.Growth.{after-renewal, AreGrown, grown_itself, grown_through, step-grown, replay-grown}
 use Rattle.relaxation.proofs.Places.{earlier-place, at-run_in, stays-run, renewal-run, settled-run, feed-run}
 
 module _ (window : Window) (is : IsOpen window) where
-  -- after a step its stream's last version lies in the renewal
-  after-renewal : (state : Versions) → KeepsRun window is state → (step : Step) → IsLegal window state step →
-      IsWithin (last_of (after_step window state step) step.stream) (step_renewal window state step)
-  after-renewal state kept step legal = elim (cases_Bool (is_idle window state step)) [
-    | inl e ↦ subst (λ x. IsWithin (last_of x step.stream) (step_renewal window state step)) (sym (after-idle window state step e))
-        (within-yes (last_of state step.stream) (step_renewal window state step) e)
-    | inr e ↦ subst (λ A. IsWithin A (step_renewal window state step))
-        (sym (ap newest (pushed-here window is state kept step legal e) ∙ push-newest (versions_of state step.stream) (step_meet window is state kept step legal)))
-        (meet-right (run_tube window step.stream) (last_of state step.stream) (step_renewal window state step)
-        (last-holds window is state kept step.stream legal.stream) (renewal-holds window is state kept step legal))
-  ]
-
   -- Now a sweep from a state whose last versions are the run below k.
   module _ (before : Versions) (were : KeepsRun window is before) (k : ℕ) (below : IsRunBelow window before k) where
     module _ (state : Versions) (kept : KeepsRun window is state) (grown : AreGrown before state) where
@@ -41,7 +26,7 @@ module _ (window : Window) (is : IsOpen window) where
       version-run t s i m l h new there =
           let some : 0 < length (versions_of before s) = (were.each s l).some in
           sym (at-run_in window is t s (version_at state s i) (last_of before s) m (version-holds window is state kept s i l there)
-          (subst (IsWithin (version_at state s i)) ((grown s).same (length (versions_of before s) - 1) (omega arith))
+          (subst (IsWithin (version_at state s i)) ((grown s).first.same (length (versions_of before s) - 1) (omega arith))
           (versions-fall (run_tube window s) (window.opening s) (versions_of state s) (kept.each s l) (length (versions_of before s) - 1) i new there))
           (below t s m l h))
 
@@ -77,7 +62,7 @@ module _ (window : Window) (is : IsOpen window) where
           | from_feed f e ↦ feed-run window is (after_step window state step) (step-kept window is state kept step legal) t step.stream f m legal.stream e
           | from_port u p e ↦ at-run_in window is t step.stream (last_of (after_step window state step) step.stream) (step_renewal window state step) m
               (last-holds window is (after_step window state step) (step-kept window is state kept step legal) step.stream legal.stream)
-              (after-renewal state kept step legal)
+              (after-renewal window is state kept step legal)
               (subst (λ o. at (origin_renewal window state step.stream step.inputs o) t ≡ run_at window is t step.stream) (sym e) (port-run t u p m e h))
         ]
 

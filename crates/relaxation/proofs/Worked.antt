@@ -9,7 +9,7 @@ use Rattle.quant.specs.Interval.{AllBands, IsBand, point}
 use Rattle.flowsheet.specs.Plant.{IsRanked, unit_at, origin_of, rank_of, IsOrigin, feed}
 use Rattle.relaxation.specs.Tube.{IsWithin, tube_of}
 use Rattle.relaxation.specs.Window.{IsOpen, run_tube, renewal}
-use Rattle.relaxation.specs.Core.{Versions, last_of, opening_versions, replay, IsQuiet, AreLegal}
+use Rattle.relaxation.specs.Core.{Versions, last_of, opening_versions, reached, IsQuiet, AreLegal}
 use Rattle.relaxation.proofs.Meets.{within-yes, within-test}
 use Rattle.relaxation.specs.Worked.{plant, window, outflow_step, level_step}
 
@@ -75,9 +75,9 @@ worked-open = record {
 
 -- the versions after both steps
 abbrev pub settled : Versions
-settled = replay window (opening_versions window) (outflow_step ∷ level_step ∷ [])
+settled = reached window (outflow_step ∷ level_step ∷ [])
 
-pub worked-quiet : IsQuiet window (replay window (opening_versions window) (outflow_step ∷ level_step ∷ []))
+pub worked-quiet : IsQuiet window (reached window (outflow_step ∷ level_step ∷ []))
 unfolding quotient share keep blend clamp
 worked-quiet zero l = tt
 worked-quiet (suc zero) l = tt

@@ -72,6 +72,10 @@ abbrev pub replay : Window → Versions → List Step → Versions
 replay window state [] = state
 replay window state (step ∷ steps) = replay window (after_step window state step) steps
 
+-- the versions after steps from the opening ones
+abbrev pub reached : Window → List Step → Versions
+reached window steps = replay window (opening_versions window) steps
+
 -- each step is legal in its turn
 abbrev pub AreLegal : Window → Versions → List Step → Type 0
 AreLegal window state [] = Unit {0}
@@ -96,6 +100,10 @@ appended state = sum_by (λ versions. length versions - 1) state
 -- the numbers of the last versions of these streams
 abbrev pub last_numbers : Versions → List ℕ → List ℕ
 last_numbers state streams = map (λ s. length (versions_of state s) - 1) streams
+
+-- the step of a stream from the last versions of what this unit reads
+abbrev pub last_step : Window → Versions → ℕ → ℕ → Step
+last_step window state u s = record { stream = s; inputs = last_numbers state (unit_at window.plant u).reads }
 
 -- the stream's last version lies in its renewal from the last versions
 abbrev pub IsSettled : Window → Versions → ℕ → Origin → Type 0

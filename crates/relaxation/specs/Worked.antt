@@ -7,6 +7,8 @@ use Rattle.flowsheet.specs.Plant.{Plant, PlantUnit, feed, port}
 use Rattle.relaxation.specs.Tube.{Tube}
 use Rattle.relaxation.specs.Window.{Window}
 use Rattle.relaxation.specs.Core.{Step}
+use Rattle.relaxation.specs.History.{Version, History}
+use Rattle.relaxation.specs.Gathered.{Made}
 
 abbrev pub between : ℕ → ℕ → Interval
 between lo hi = record { lo = pos lo; hi = pos hi }
@@ -94,3 +96,24 @@ outflow_tube =
 
 abbrev pub level_tube : Tube
 level_tube = (point (pos 1000) ∷ []) ∷ (between 1000 1002 ∷ []) ∷ []
+
+-- what two makers leave: the outflow's version at stamp 1 and the level's at stamp 2, each from the opening feeds
+abbrev pub outflow_version : Version
+outflow_version = record { number = 1; maker = 0; stamp = 1; refs = 0 ∷ 0 ∷ []; tube = outflow_tube }
+
+abbrev pub level_version : Version
+level_version = record { number = 1; maker = 1; stamp = 2; refs = 0 ∷ 0 ∷ []; tube = level_tube }
+
+-- the version that a stream opens with
+abbrev pub opening_version : ℕ → Version
+opening_version s = record { number = 0; maker = 0; stamp = 0; refs = []; tube = window.opening s }
+
+abbrev pub histories : List History
+histories =
+    (opening_version 0 ∷ []) ∷ (opening_version 1 ∷ [])
+    ∷ (opening_version 2 ∷ outflow_version ∷ []) ∷ (opening_version 3 ∷ level_version ∷ []) ∷ []
+
+-- the two made versions, by their stamps
+abbrev pub gathered : List Made
+gathered =
+    record { stream = 2; version = outflow_version } ∷ record { stream = 3; version = level_version } ∷ []

@@ -1,18 +1,23 @@
-//! What relaxing a window means: tubes, steps that narrow one stream, quiet states, sweeps and sound histories, with the
-//! laws that join them to the interval run. It has definitions and laws alone, and knows no threads.
+//! What relaxing a window means: tubes, steps that narrow one stream, quiet states, sweeps and sound histories, with
+//! the laws that join them to the interval run. It has definitions and laws alone, and knows no threads.
 //!
-//! The laws hold for every window that is open, every legal list of steps and every schedule. Legal steps keep the run in
-//! every version and narrow strictly, so their number is bounded and a quiet state is the run. Sweeps, in any order of
-//! units, make one place more the run's each, so enough of them end quiet. Sound histories, sorted by their stamps, are
-//! such a list of steps.
+//! The laws hold for every window that is open, every legal list of steps and every schedule. Legal steps keep the run
+//! in every version and narrow strictly, so their number is bounded and a quiet state is the run. Sweeps, in any order
+//! of units, make one place more the run's each, so enough of them end quiet. Sound histories, sorted by their stamps,
+//! are such a list of steps.
 #![tactic(auto)]
 
 mod core_laws;
 mod history_laws;
 mod sweep_laws;
+mod tube_laws;
 mod worked_laws;
 
-pub use core_laws::{idle_steps_change_nothing, legal_steps_keep_the_run, steps_join};
+pub use core_laws::{
+    earlier_versions_stay, idle_last_steps_are_settled, idle_steps_change_nothing,
+    legal_steps_keep_the_run, steps_join,
+};
 pub use history_laws::{gathered_histories_are_adopted, seen_histories_are_enough};
 pub use sweep_laws::{appended_versions_keep_steps, sweeps_settle};
-pub use worked_laws::worked_window;
+pub use tube_laws::tests_are_relations;
+pub use worked_laws::{worked_histories, worked_sweep, worked_window};
