@@ -1,7 +1,12 @@
 ghost use Rattle.std.specs.Prelude.{◌≡◌, None};
+ghost use Rattle.std.specs.Io.{WritesAtMost};
 
 use flow_edge::{Sink, WriteFault};
-use std::io::{Stderr, Stdout, Write};
+use std::io;
+use std::io::{ErrorKind, Stderr, Stdout, Write};
+
+/// How often a write that was interrupted is tried again.
+const MOST_RETRIES: u32 = 1000;
 
 /// A stream of the system as a sink. It tells no bytes, and counts a fault for each piece that it does not take whole.
 #[derive(Drop)]
@@ -33,7 +38,7 @@ impl<W: Write> Sink for StreamSink<W> {
     fn write(&mut self, piece: &[u8]) -> Result<(), WriteFault> {
         let mut rest = piece;
         while !rest.is_empty() {
-            match self.stream.write(rest) {
+            match write_some(&mut self.stream, rest) {
                 Ok(n) if n > 0 => rest = &rest[n..],
                 _ => {
                     self.faults = self.faults.saturating_add(1);
@@ -43,4 +48,17 @@ impl<W: Write> Sink for StreamSink<W> {
         }
         Ok(())
     }
+}
+
+/// Writes once, and again where a signal came in between.
+fn write_some<W: Write>(stream: &mut W, piece: &[u8]) -> io::Result<usize>
+    ensures { WritesAtMost result piece.now }
+{
+    for _ in 0..MOST_RETRIES {
+        match stream.write(piece) {
+            Err(error) if error.kind() == ErrorKind::Interrupted => {}
+            answer => return answer,
+        }
+    }
+    Err(io::Error::from(ErrorKind::Interrupted))
 }

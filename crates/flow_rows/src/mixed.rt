@@ -1,6 +1,6 @@
 //! A plant with every kind of unit but a tank: a reactor under level control, with a recycle, and a column section behind it.
 
-use crate::runs::{PLANT, call, changed};
+use crate::runs::{PLANT, call, changed, changed_text};
 use flow_edge::Status;
 use std::alloc::Global;
 use std::process::Abort;
@@ -9,8 +9,8 @@ use std::thread::Threads;
 
 const MIXED: &str = r#"format = 1
 [run]
-ticks = 64
-window = 64
+ticks = 120
+window = 16
 [limits]
 flow = [0, 2000]
 conc = [0, 10000]
@@ -170,6 +170,15 @@ const RECYCLE: [(&str, &str); 1] = [(
 
 const RECYCLE_RANKS: &str = "unit,kind,rank\nt1,mixer,2\ns,splitter,1\nt,tank,0\n";
 
+/// As many of its ticks as fit into one window.
+fn in_one_window(alloc: Global) -> Result<Vec<u8>, Fail> {
+    changed_text(
+        alloc,
+        MIXED,
+        &[("ticks = 120\nwindow = 16", "ticks = 64\nwindow = 64")],
+    )
+}
+
 fn bytes(alloc: Global, text: &str) -> Result<Vec<u8>, Fail> {
     Ok(Vec::from_slice(alloc, text.as_bytes())?)
 }
@@ -177,7 +186,7 @@ fn bytes(alloc: Global, text: &str) -> Result<Vec<u8>, Fail> {
 #[test]
 fn runs_every_kind(rt: HostRuntime) -> Result<(), Fail> {
     let alloc = rt.alloc();
-    let answer = call(&rt, alloc, "run", bytes(alloc, MIXED)?, 200_000)?;
+    let answer = call(&rt, alloc, "run", in_one_window(alloc)?, 200_000)?;
     assert_eq!(rt; answer.status, Status::Done);
     assert!(rt; answer.out.starts_with(FIRST_ROWS.as_bytes()));
     let lines = answer.out.iter().filter(|&&byte| byte == b'\n').count();

@@ -89,9 +89,14 @@ where
     })
 }
 
-/// The text with the first of each phrase changed for another.
+/// The worked text with the first of each phrase changed for another.
 pub fn changed(alloc: Global, changes: &[(&str, &str)]) -> Result<Vec<u8>, Fail> {
-    let mut text = String::from_str(alloc, PLANT)?;
+    changed_text(alloc, PLANT, changes)
+}
+
+/// A text with the first of each phrase changed for another.
+pub fn changed_text(alloc: Global, text: &str, changes: &[(&str, &str)]) -> Result<Vec<u8>, Fail> {
+    let mut text = String::from_str(alloc, text)?;
     for &(old, new) in changes {
         let (before, after) = text
             .split_once(old)

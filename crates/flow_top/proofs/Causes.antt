@@ -1,330 +1,358 @@
 -- The cause of each status, from how the work ended and what was said of it.
-use Rattle.std.proofs.Common.{◌≡◌, ◌⊎◌, inl, inr, refl, sym, ap, ◌∙◌, subst, ℕ, Bool, true, false, List, [], Some, None, IfSome}
+use Rattle.std.proofs.Common.{◌≡◌, ◌⊎◌, inl, inr, refl, sym, ap, ◌∙◌, subst, ℕ, List, [], Option, Some, None, IfSome}
 use Rattle.std.proofs.Common.{Result, Ok, Err}
 use Rattle.flow_edge.specs.Faults.{Rose}
+use Rattle.flow_edge.specs.Sink.{Gives}
 use Rattle.flow_edge.specs.declared.status.Status.{Status}
 use Rattle.flow_edge.specs.declared.status.Status.TheVariants as status
+use Rattle.plant.specs.declared.fault.PlantFault.{PlantFault}
+use Rattle.plant.specs.declared.fault.PlantFault.TheVariants as part
+use Rattle.flow_file.specs.declared.fault.TextFault.{TextFault}
+use Rattle.flow_file.specs.declared.fault.TextFault.TheVariants as text
 use Rattle.parts.specs.Parts.{FileParts}
-use Rattle.flow_top.specs.declared.fault.End.{End}
-use Rattle.flow_top.specs.declared.fault.End.TheVariants.{Fault, NoMemory}
-use Rattle.flow_top.specs.declared.fault.TopFault.{TopFault}
-use Rattle.flow_top.specs.declared.fault.TopFault.TheVariants.{Words, Refused, No, ReadPlant, WriteOut}
-use Rattle.flow_top.specs.declared.fault.Refusal.{Refusal}
+use Rattle.plant.specs.Sound.{IsPlant}
 use Rattle.flow_top.specs.declared.words.Command.{Command}
+use Rattle.flow_top.specs.declared.words.Command.TheVariants.{Run, Check}
+use Rattle.flow_top.specs.declared.fault.Stop.{Stop}
+use Rattle.flow_top.specs.declared.fault.End.{End}
+use Rattle.flow_top.specs.declared.fault.End.TheVariants.{Stopped, NoMemory}
+use Rattle.flow_top.specs.declared.fault.TopFault.{TopFault}
+use Rattle.flow_top.specs.declared.fault.TopFault.TheVariants as top
 use Rattle.flow_top.specs.Words.{command_in}
-use Rattle.flow_top.specs.Judged.{Judgement, IsJudged, answers_no, fault_by}
-use Rattle.flow_top.specs.Lines.{fault_line, memory_line}
-use Rattle.flow_top.specs.Output.{output_of}
+use Rattle.flow_top.specs.Faults.{fault_of_text, fault_of_plant, own_status, status_of, stop_by}
+use Rattle.flow_top.specs.Judged.{IsJudged, too_long, unread, unbuilt, built}
+use Rattle.flow_top.specs.Course.{Course, written, text_of}
+use Rattle.flow_top.specs.Courses.{IsWork}
+use Rattle.flow_top.specs.Lines.{fault_line, constant_line, memory_line}
 use Rattle.flow_top.specs.Uses.{SourceUse, SinkUse, IsUnwritten, WasGiven}
-use Rattle.flow_top.specs.Ended.{Ended, Wrote, HoldsPlant, RefusedPlant}
-use Rattle.flow_top.specs.Stands.{Said, SaidLine, SaidMemory, SaidFault, status_of}
-use Rattle.flow_top.specs.Causes.{WritesOutput, SaysRefusal, AnswersOr}
+use Rattle.flow_top.specs.Ended.{Ended, misread, asked, CommandEnded, WorkEnded, course_end, SaysParts, IsRefused, Stood}
+use Rattle.flow_top.specs.Ended as ended
+use Rattle.flow_top.specs.Stands.{Said, SaidLine, SaidMemory, SaidStop}
+use Rattle.flow_top.specs.Causes.{IsEndOn, refusal, course, WroteSome, WroteAll, Cause, AnswersOr}
 use Rattle.flow_top.proofs.Judging.{judgement-unique}
+use Rattle.flow_top.proofs.Courses.{courses-agree, course-stops}
+use Rattle.flow_top.proofs.Writes.{nothing-more}
 
--- three ways in which a fault is answered: its line was given; a write failed; memory ran out
-data Answer (fault : TopFault) (err : SinkUse) (result : Status) : Type 0 where
-  line : WasGiven err (fault_line fault) → result ≡ status_of fault → Answer fault err result
-  broke : Rose err.before err.now → result ≡ status.WriteFault → Answer fault err result
-  memory : WasGiven err memory_line → result ≡ status.NoMemory → Answer fault err result
+-- the refusals of a text are refusals
+text-refused : (fault : TextFault) → own_status (fault_of_text fault) ≡ status.Refused
+unfolding own_status fault_of_text
+text-refused text.NotToml = refl
+text-refused (text.Format found) = refl
+text-refused (text.Missing place) = refl
+text-refused (text.WrongType place) = refl
+text-refused (text.UnknownKey place) = refl
+text-refused (text.OutOfRange place) = refl
+text-refused (text.BadName place) = refl
+text-refused (text.TooMany place) = refl
 
-answer_memory : (fault : TopFault) (err : SinkUse) (result : Status) → SaidMemory err result → Answer fault err result
-answer_memory fault err result (inl s) = memory s.0 s.1
-answer_memory fault err result (inr s) = broke s.0.fault s.1
+plant-refused : (fault : PlantFault) → own_status (fault_of_plant fault) ≡ status.Refused
+unfolding own_status fault_of_plant
+plant-refused (part.Twice name) = refl
+plant-refused (part.NoSource place) = refl
+plant-refused (part.WrongPort place) = refl
+plant-refused (part.BadLimits place) = refl
+plant-refused (part.StartOutside place) = refl
+plant-refused (part.FeedPieces place) = refl
+plant-refused (part.FeedOutside place) = refl
+plant-refused (part.TableFalls place) = refl
+plant-refused (part.ColumnTooFast unit) = refl
+plant-refused (part.InstantLoop unit) = refl
+plant-refused (part.TooDeep unit) = refl
 
-answer_line : (fault : TopFault) (err : SinkUse) (result : Status) → SaidLine err (fault_line fault) (status_of fault) result →
-    Answer fault err result
-answer_line fault err result (inl s) = line s.0 s.1
-answer_line fault err result (inr s) = broke s.0.fault s.1
+pub length-refused : own_status top.TooLong ≡ status.Refused
+unfolding own_status
+length-refused = refl
 
-answer_of : (fault : TopFault) (err : SinkUse) (result : Status) → SaidFault fault err result → Answer fault err result
-answer_of (Words at) err result (inl s) = answer_line (Words at) err result s
-answer_of (Words at) err result (inr s) = answer_memory (Words at) err result s
-answer_of (Refused refusal) err result (inl s) = answer_line (Refused refusal) err result s
-answer_of (Refused refusal) err result (inr s) = answer_memory (Refused refusal) err result s
-answer_of (No refusal) err result (inl s) = answer_line (No refusal) err result s
-answer_of (No refusal) err result (inr s) = answer_memory (No refusal) err result s
-answer_of ReadPlant err result s = answer_line ReadPlant err result s
-answer_of WriteOut err result s = answer_line WriteOut err result s
+pub judged-refused : (bytes : List ℕ) (fault : TopFault) → IsJudged bytes (Err fault) → own_status fault ≡ status.Refused
+judged-refused bytes fault (too_long long e) =
+    let same : fault ≡ top.TooLong = cc e in ap own_status same ∙ length-refused
+judged-refused bytes fault (unread f short read e) =
+    let same : fault ≡ fault_of_text f = cc e in ap own_status same ∙ text-refused f
+judged-refused bytes fault (unbuilt parts f short read verdict e) =
+    let same : fault ≡ fault_of_plant f = cc e in ap own_status same ∙ plant-refused f
+judged-refused bytes fault (built parts short read is e) = absurd (cc e)
 
--- an answered fault is not these statuses
-not_done : (fault : TopFault) (err : SinkUse) (result : Status) → Answer fault err result → result ≡ status.Done → ⊥
-not_done (Words at) err result (line g e) d = cc
-not_done (Refused refusal) err result (line g e) d = cc
-not_done (No refusal) err result (line g e) d = cc
-not_done ReadPlant err result (line g e) d = cc
-not_done WriteOut err result (line g e) d = cc
-not_done fault err result (broke r e) d = cc
-not_done fault err result (memory g e) d = cc
+-- judged parts are a plant
+pub judged-plant : (bytes : List ℕ) (parts : FileParts) → IsJudged bytes (Ok parts) → IsPlant parts
+judged-plant bytes parts (too_long long e) = absurd (cc e)
+judged-plant bytes parts (unread f short read e) = absurd (cc e)
+judged-plant bytes parts (unbuilt p f short read verdict e) = absurd (cc e)
+judged-plant bytes parts (built p short read is e) = let same : p ≡ parts = cc e in subst IsPlant same is
 
-not_wide : (fault : TopFault) (err : SinkUse) (result : Status) → Answer fault err result → result ≡ status.Wide → ⊥
-not_wide (Words at) err result (line g e) d = cc
-not_wide (Refused refusal) err result (line g e) d = cc
-not_wide (No refusal) err result (line g e) d = cc
-not_wide ReadPlant err result (line g e) d = cc
-not_wide WriteOut err result (line g e) d = cc
-not_wide fault err result (broke r e) d = cc
-not_wide fault err result (memory g e) d = cc
+-- a command answers a refusal by Refused or by No
+check_status : (fault : TopFault) → own_status fault ≡ status.Refused →
+    (status_of Check fault ≡ status.Refused) ⊎ (status_of Check fault ≡ status.No)
+unfolding status_of own_status
+check_status (top.InstantLoop unit) e = inr refl
+check_status (top.TooDeep unit) e = inr refl
+check_status fault e = inl e
 
--- each status of a line names its fault
-words_named : (fault : TopFault) (err : SinkUse) (result : Status) → Answer fault err result → result ≡ status.Words →
-    (at : ℕ) × (fault ≡ Words at) × WasGiven err (fault_line (Words at))
-words_named (Words at) err result (line g e) d = (at, refl, g)
-words_named (Refused refusal) err result (line g e) d = absurd (cc (e, d))
-words_named (No refusal) err result (line g e) d = absurd (cc (e, d))
-words_named ReadPlant err result (line g e) d = absurd (cc (e, d))
-words_named WriteOut err result (line g e) d = absurd (cc (e, d))
-words_named fault err result (broke r e) d = absurd (cc (e, d))
-words_named fault err result (memory g e) d = absurd (cc (e, d))
+refusal_status : (command : Command) (fault : TopFault) → own_status fault ≡ status.Refused →
+    (status_of command fault ≡ status.Refused) ⊎ (status_of command fault ≡ status.No)
+unfolding status_of
+refusal_status Run fault e = inl e
+refusal_status Check fault e = check_status fault e
 
-refused_named : (fault : TopFault) (err : SinkUse) (result : Status) → Answer fault err result → result ≡ status.Refused →
-    (refusal : Refusal) × (fault ≡ Refused refusal) × WasGiven err (fault_line (Refused refusal))
-refused_named (Words at) err result (line g e) d = absurd (cc (e, d))
-refused_named (Refused refusal) err result (line g e) d = (refusal, refl, g)
-refused_named (No refusal) err result (line g e) d = absurd (cc (e, d))
-refused_named ReadPlant err result (line g e) d = absurd (cc (e, d))
-refused_named WriteOut err result (line g e) d = absurd (cc (e, d))
-refused_named fault err result (broke r e) d = absurd (cc (e, d))
-refused_named fault err result (memory g e) d = absurd (cc (e, d))
+-- the status of a failed device
+read_status : (command : Command) → status_of command top.ReadPlant ≡ status.ReadFault
+unfolding status_of own_status
+read_status Run = refl
+read_status Check = refl
 
-no_named : (fault : TopFault) (err : SinkUse) (result : Status) → Answer fault err result → result ≡ status.No →
-    (refusal : Refusal) × (fault ≡ No refusal) × WasGiven err (fault_line (No refusal))
-no_named (Words at) err result (line g e) d = absurd (cc (e, d))
-no_named (Refused refusal) err result (line g e) d = absurd (cc (e, d))
-no_named (No refusal) err result (line g e) d = (refusal, refl, g)
-no_named ReadPlant err result (line g e) d = absurd (cc (e, d))
-no_named WriteOut err result (line g e) d = absurd (cc (e, d))
-no_named fault err result (broke r e) d = absurd (cc (e, d))
-no_named fault err result (memory g e) d = absurd (cc (e, d))
+write_status : (command : Command) → status_of command top.WriteOut ≡ status.WriteFault
+unfolding status_of own_status
+write_status Run = refl
+write_status Check = refl
 
-read_named : (fault : TopFault) (err : SinkUse) (result : Status) → Answer fault err result → result ≡ status.ReadFault →
-    (fault ≡ ReadPlant) × WasGiven err (fault_line ReadPlant)
-read_named (Words at) err result (line g e) d = absurd (cc (e, d))
-read_named (Refused refusal) err result (line g e) d = absurd (cc (e, d))
-read_named (No refusal) err result (line g e) d = absurd (cc (e, d))
-read_named ReadPlant err result (line g e) d = (refl, g)
-read_named WriteOut err result (line g e) d = absurd (cc (e, d))
-read_named fault err result (broke r e) d = absurd (cc (e, d))
-read_named fault err result (memory g e) d = absurd (cc (e, d))
+-- a fact of a text that is told holds at that text
+at_text : (o : Option (List ℕ)) (bytes : List ℕ) (P : List ℕ → Type 0) → o ≡ Some bytes → IfSome o P → P bytes
+at_text o bytes P t h = subst (λ o. IfSome o P) t h
 
-write_named : (fault : TopFault) (err : SinkUse) (result : Status) → Answer fault err result → result ≡ status.WriteFault →
-    Rose err.before err.now ⊎ ((fault ≡ WriteOut) × WasGiven err (fault_line WriteOut))
-write_named (Words at) err result (line g e) d = absurd (cc (e, d))
-write_named (Refused refusal) err result (line g e) d = absurd (cc (e, d))
-write_named (No refusal) err result (line g e) d = absurd (cc (e, d))
-write_named ReadPlant err result (line g e) d = absurd (cc (e, d))
-write_named WriteOut err result (line g e) d = inr (refl, g)
-write_named fault err result (broke r e) d = inl r
-write_named fault err result (memory g e) d = absurd (cc (e, d))
+-- what holds of each text holds of the one that is told
+each_text : (o : Option (List ℕ)) (P Q : List ℕ → Type 0) → ((bytes : List ℕ) → P bytes → Q bytes) → IfSome o P → IfSome o Q
+each_text None P Q f h = tt
+each_text (Some bytes) P Q f h = f bytes h
 
-memory_named : (fault : TopFault) (err : SinkUse) (result : Status) → Answer fault err result → result ≡ status.NoMemory →
-    WasGiven err memory_line
-memory_named (Words at) err result (line g e) d = absurd (cc (e, d))
-memory_named (Refused refusal) err result (line g e) d = absurd (cc (e, d))
-memory_named (No refusal) err result (line g e) d = absurd (cc (e, d))
-memory_named ReadPlant err result (line g e) d = absurd (cc (e, d))
-memory_named WriteOut err result (line g e) d = absurd (cc (e, d))
-memory_named fault err result (broke r e) d = absurd (cc (e, d))
-memory_named fault err result (memory g e) d = g
+-- a command has one end on a text
+pub end-unique : (command : Command) (bytes : List ℕ) (one other : Option Stop) → IsEndOn command bytes one →
+    IsEndOn command bytes other → one ≡ other
+end-unique command bytes one other (refusal f j e) (refusal g k d) =
+    let same : f ≡ g = cc (judgement-unique bytes (Err f) (Err g) j k) in
+    e ∙ ap (λ fault. Some (stop_by command fault)) same ∙ sym d
+end-unique command bytes one other (refusal f j e) (course parts c k w d) =
+    absurd (cc (judgement-unique bytes (Err f) (Ok parts) j k))
+end-unique command bytes one other (course parts c k w d) (refusal f j e) =
+    absurd (cc (judgement-unique bytes (Err f) (Ok parts) j k))
+end-unique command bytes one other (course p a j w e) (course q b k v d) =
+    let same : q ≡ p = cc (judgement-unique bytes (Ok q) (Ok p) k j) in
+    let moved : IsWork command p b = subst (λ parts. IsWork command parts b) same v in
+    e ∙ courses-agree command p a b w.course moved.course ∙ sym d
 
--- a fault is answered by its own status, or its line broke, or memory ran out
-own_answer : (fault : TopFault) (err : SinkUse) (result : Status) → Answer fault err result →
-    AnswersOr (status_of fault) err.before err.now result
-own_answer fault err result (line g e) = inl e
-own_answer fault err result (broke r e) = inr (inl (e, r))
-own_answer fault err result (memory g e) = inr (inr e)
+-- what was said of a stop is answered by its status, or by one that the error line explains
+own_or : (stop : Stop) (err : SinkUse) (result : Status) → SaidStop stop err result →
+    AnswersOr stop.status err.before err.now result
+own_or stop err result (inl (inl s)) = inl s.1
+own_or stop err result (inl (inr s)) = inr (inl (s.1, s.0.fault))
+own_or stop err result (inr s) = elim s.1 [ inl m ↦ inr (inr m.1) | inr m ↦ inr (inl (m.1, m.0.fault)) ]
 
--- what was judged of the source's text is its one judgement
-judged_once : (words : List (List ℕ)) (source : SourceUse) (command k : Command) (text : List ℕ) (judgement other : Judgement) →
-    command_in words ≡ Ok command → command_in words ≡ Ok k → source.text ≡ Some text →
-    IfSome source.text (λ bytes. IsJudged k bytes judgement) → IsJudged command text other → other ≡ judgement
-judged_once words source command k text judgement other w v t j o =
-    let same : command ≡ k = cc (w, v) in
-    let own : IsJudged k text judgement = subst (λ o. IfSome o (λ bytes. IsJudged k bytes judgement)) t j in
-    judgement-unique k text other judgement (subst (λ c. IsJudged c text other) same o) own
+memory_or : (own : Status) (err : SinkUse) (result : Status) → SaidMemory err result → AnswersOr own err.before err.now result
+memory_or own err result (inl s) = inr (inr s.1)
+memory_or own err result (inr s) = inr (inl (s.1, s.0.fault))
 
--- the status of results that are too wide never comes
-pub never-wide : (err : SinkUse) (result : Status) (ending : Result (Unit {0}) End) → Said ending err result →
-    result ≡ status.Wide → ⊥
-never-wide err result (Ok done) s d = cc (s.1, d)
-never-wide err result (Err NoMemory) (inl s) d = cc (s.1, d)
-never-wide err result (Err NoMemory) (inr s) d = cc (s.1, d)
-never-wide err result (Err (Fault fault)) s d = not_wide fault err result (answer_of fault err result s) d
+-- where the errors did not fail, want of memory was answered
+memory_alone : (err : SinkUse) (result : Status) → SaidMemory err result → ¬ Rose err.before err.now →
+    (result ≡ status.Done) ⊎ (result ≡ status.NoMemory)
+memory_alone err result (inl s) r = inr s.1
+memory_alone err result (inr s) r = absurd (r s.0.fault)
 
 module _ (words : List (List ℕ)) (plant : SourceUse) (out err : SinkUse) (result : Status) where
-  -- done: the output was written
-  pub done-wrote : (ending : Result (Unit {0}) End) → Ended ending words plant out → Said ending err result →
-      result ≡ status.Done → Wrote words plant out × IsUnwritten err
-  done-wrote (Ok done) e s d = (e, s.0)
-  done-wrote (Err (Fault fault)) e s d = absurd (not_done fault err result (answer_of fault err result s) d)
-  done-wrote (Err NoMemory) e (inl s) d = absurd (cc (s.1, d))
-  done-wrote (Err NoMemory) e (inr s) d = absurd (cc (s.1, d))
+  -- the cause of what is answered where memory runs out
+  by_memory : SaidMemory err result →
+      ((out.has ≡ out.had) ⊎ WroteSome words plant.text plant.left out.had out.has) →
+      Cause result words plant out err
+  by_memory (inl s) stood = subst (λ r. Cause r words plant out err) (sym s.1) (s.0, stood)
+  by_memory (inr s) stood = subst (λ r. Cause r words plant out err) (sym s.1) (inr s.0.fault)
 
-  -- words: they were refused
-  pub words-refused : (ending : Result (Unit {0}) End) → Ended ending words plant out → Said ending err result →
-      result ≡ status.Words →
-      (at : ℕ) × (command_in words ≡ Err at) × WasGiven err (fault_line (Words at))
-  words-refused (Ok done) e s d = absurd (cc (s.1, d))
-  words-refused (Err NoMemory) e (inl s) d = absurd (cc (s.1, d))
-  words-refused (Err NoMemory) e (inr s) d = absurd (cc (s.1, d))
-  words-refused (Err (Fault fault)) e s d =
-      let n = words_named fault err result (answer_of fault err result s) d in
-      let e : Ended (Err (Fault (Words n.0))) words plant out = subst (λ f. Ended (Err (Fault f)) words plant out) n.1 e in
-      (n.0, e.words, n.2)
+  -- the cause of what is answered at a stop
+  by_stop : (stop : Stop) → SaidStop stop err result →
+      (WasGiven err (fault_line stop.fault) → Cause stop.status words plant out err) →
+      (constant_line stop.fault ≡ None →
+      (out.has ≡ out.had) ⊎ WroteSome words plant.text plant.left out.had out.has) →
+      Cause result words plant out err
+  by_stop stop (inl (inl s)) own stood = subst (λ r. Cause r words plant out err) (sym s.1) (own s.0)
+  by_stop stop (inl (inr s)) own stood = subst (λ r. Cause r words plant out err) (sym s.1) (inr s.0.fault)
+  by_stop stop (inr s) own stood = by_memory s.1 (stood s.0)
 
-  -- refused words: their status
-  pub words-only : (at : ℕ) (ending : Result (Unit {0}) End) → Ended ending words plant out → Said ending err result →
-      command_in words ≡ Err at →
-      AnswersOr status.Words err.before err.now result
-  words-only at (Ok done) e s d = absurd (cc (e.words, d))
-  words-only at (Err NoMemory) e s d = absurd (cc (e.words, d))
-  words-only at (Err (Fault (Words k))) e s d = own_answer (Words k) err result (answer_of (Words k) err result s)
-  words-only at (Err (Fault (Refused refusal))) e s d = absurd (cc (e.words, d))
-  words-only at (Err (Fault (No refusal))) e s d = absurd (cc (e.words, d))
-  words-only at (Err (Fault ReadPlant)) e s d = absurd (cc (e.words, d))
-  words-only at (Err (Fault WriteOut)) e s d = absurd (cc (e.words, d))
+  -- what stands of a course
+  some_windows : (command : Command) (parts : FileParts) (course : Course) (k : ℕ) → command_in words ≡ Ok command →
+      SaysParts plant parts → IsWork command parts course → Stood course k out →
+      WroteSome words plant.text plant.left out.had out.has
+  some_windows command parts c k a says work stood = record {
+    command = command;
+    parts = parts;
+    course = c;
+    windows = k;
+    asked = a;
+    says = says.text;
+    read = says.whole;
+    work = work;
+    few = stood.few;
+    output = stood.output;
+  }
 
-  -- what a refusal says
-  says : (refusal : Refusal) (negative : Bool) → RefusedPlant words plant out refusal negative →
-      WasGiven err (fault_line (fault_by negative refusal)) →
-      SaysRefusal negative words plant.text err.had err.has × IsUnwritten out
-  says refusal negative e g = (
-    record {
-      command = e.command;
-      refusal = refusal;
-      asked = e.words;
-      judged = e.plant.text;
-      answer = e.plant.answer;
-      line = g;
-    },
-    e.output,
-  )
+  -- the cause at the end of a course
+  by_course : (end : Option Stop) (command : Command) (parts : FileParts) (c : Course) → command_in words ≡ Ok command →
+      SaysParts plant parts → IsWork command parts c → Stood c c.windows out → c.stop ≡ end →
+      Said (course_end end) err result → Cause result words plant out err
+  by_course None command parts c a says work stood e said =
+      subst (λ r. Cause r words plant out err) (sym said.1) (record {
+        command = command;
+        parts = parts;
+        course = c;
+        asked = a;
+        says = says.text;
+        read = says.whole;
+        work = work;
+        whole = e;
+        output = stood.output;
+      }, said.0.text)
+  by_course (Some stop) command parts c a says work stood e said =
+      let stops = course-stops command parts c stop work.course e in
+      let silent = nothing-more out.had out.has
+      (subst (λ text. Gives out.had out.has text) stops.text stood.output) in
+      by_stop stop said (λ g. subst (λ s. Cause s words plant out err) (sym stops.refused) (record {
+        command = command;
+        stop = stop;
+        asked = a;
+        ends = each_text plant.text (λ bytes. IsJudged bytes (Ok parts)) (λ bytes. IsEndOn command bytes (Some stop))
+            (λ bytes j. course parts c j work (sym e)) says.text;
+        status = stops.refused;
+        line = g;
+      }, silent)) (λ none. inl silent)
 
-  -- refused: the text of the plant source is, and its line was given
-  pub refused-said : (ending : Result (Unit {0}) End) → Ended ending words plant out → Said ending err result →
-      result ≡ status.Refused →
-      SaysRefusal false words plant.text err.had err.has × IsUnwritten out
-  refused-said (Ok done) e s d = absurd (cc (s.1, d))
-  refused-said (Err NoMemory) e (inl s) d = absurd (cc (s.1, d))
-  refused-said (Err NoMemory) e (inr s) d = absurd (cc (s.1, d))
-  refused-said (Err (Fault fault)) e s d =
-      let n = refused_named fault err result (answer_of fault err result s) d in
-      let e : Ended (Err (Fault (Refused n.0))) words plant out = subst (λ f. Ended (Err (Fault f)) words plant out) n.1 e in
-      says n.0 false e n.2
+  -- the cause where the plant is refused
+  by_refusal : (command : Command) (fault : TopFault) → command_in words ≡ Ok command → IsRefused plant fault →
+      IsUnwritten out → SaidStop (stop_by command fault) err result → Cause result words plant out err
+  by_refusal command fault a r o said =
+      let ends = each_text plant.text (λ bytes. IsJudged bytes (Err fault))
+      (λ bytes. IsEndOn command bytes (Some (stop_by command fault))) (λ bytes j. refusal fault j refl) r.text in
+      by_stop (stop_by command fault) said (λ g. elim (refusal_status command fault r.refusal) [
+        | inl s ↦ subst (λ t. Cause t words plant out err) (sym s) (record {
+              command = command; stop = stop_by command fault; asked = a; ends = ends; status = s; line = g;
+            }, o.text)
+        | inr s ↦ subst (λ t. Cause t words plant out err) (sym s) (record {
+              command = command; stop = stop_by command fault; asked = a; ends = ends; status = s; line = g;
+            }, o.text)
+      ]) (λ none. inl o.text)
 
-  -- no: the text of the plant source is refused, `check` answers No to that, and its line was given
-  pub no-said : (ending : Result (Unit {0}) End) → Ended ending words plant out → Said ending err result → result ≡ status.No →
-      SaysRefusal true words plant.text err.had err.has × IsUnwritten out
-  no-said (Ok done) e s d = absurd (cc (s.1, d))
-  no-said (Err NoMemory) e (inl s) d = absurd (cc (s.1, d))
-  no-said (Err NoMemory) e (inr s) d = absurd (cc (s.1, d))
-  no-said (Err (Fault fault)) e s d =
-      let n = no_named fault err result (answer_of fault err result s) d in
-      let e : Ended (Err (Fault (No n.0))) words plant out = subst (λ f. Ended (Err (Fault f)) words plant out) n.1 e in
-      says n.0 true e n.2
+  -- the cause at each end of the work on a plant
+  by_work : (command : Command) (parts : FileParts) (ending : Result (Unit {0}) End) → command_in words ≡ Ok command →
+      SaysParts plant parts → WorkEnded command parts out ending → Said ending err result →
+      Cause result words plant out err
+  by_work command parts ending a says (ended.through c work stood e) said =
+      by_course c.stop command parts c a says work stood refl (subst (λ x. Said x err result) e said)
+  by_work command parts ending a says (ended.broken c work some broke e) said =
+      by_stop (stop_by command top.WriteOut) (subst (λ x. Said x err result) e said)
+      (λ g. subst (λ s. Cause s words plant out err) (sym (write_status command)) (inl (broke.fault, g))) (λ none. absurd (cc none))
+  by_work command parts ending a says (ended.early o e) said =
+      by_memory (subst (λ x. Said x err result) e said) (inl o.text)
+  by_work command parts ending a says (ended.within c k work stood e) said =
+      by_memory (subst (λ x. Said x err result) e said) (inr (some_windows command parts c k a says work stood))
 
-  -- the status of a refusal by the command's answer
-  own_refusal : (command : Command) (text : List ℕ) (refused refusal : Refusal) (negative : Bool) →
-      RefusedPlant words plant out refusal negative →
-      AnswersOr (status_of (fault_by negative refusal)) err.before err.now result →
-      command_in words ≡ Ok command → plant.text ≡ Some text → IsJudged command text (Err refused) →
-      AnswersOr (status_of (fault_by (answers_no command refused) refused)) err.before err.now result
-  own_refusal command text refused refusal negative e a w t n =
-      let found = judged_once words plant command e.command text (Err refusal) (Err refused) w e.words t e.plant.text n in
-      let same : refused ≡ refusal = cc found in
-      let asked : command ≡ e.command = cc (w, e.words) in
-      let answer : answers_no command refused ≡ negative =
-      ap (λ c. answers_no c refused) asked ∙ ap (answers_no e.command) same ∙ e.plant.answer in
-      let fault = ap (λ b. fault_by b refused) answer ∙ ap (fault_by negative) same in
-      subst (λ f. AnswersOr (status_of f) err.before err.now result) (sym fault) a
+  -- the cause at each end of a command
+  by_command : (command : Command) (ending : Result (Unit {0}) End) → command_in words ≡ Ok command →
+      CommandEnded command plant out ending → Said ending err result → Cause result words plant out err
+  by_command command ending a (ended.refused fault r o e) said =
+      by_refusal command fault a r o (subst (λ x. Said x err result) e said)
+  by_command command ending a (ended.unread rose o e) said =
+      by_stop (stop_by command top.ReadPlant) (subst (λ x. Said x err result) e said)
+      (λ g. subst (λ s. Cause s words plant out err) (sym (read_status command)) (rose, g, o.text)) (λ none. inl o.text)
+  by_command command ending a (ended.starved o e) said = by_memory (subst (λ x. Said x err result) e said) (inl o.text)
+  by_command command ending a (ended.worked parts says w) said = by_work command parts ending a says w said
 
-  -- a plant is not refused
-  not_refused : (command : Command) (text : List ℕ) (refused : Refusal) (k : Command) (parts : FileParts) →
-      HoldsPlant k plant parts →
-      command_in words ≡ Ok command → command_in words ≡ Ok k → plant.text ≡ Some text → IsJudged command text (Err refused) → ⊥
-  not_refused command text refused k parts h w v t n =
-      cc (judged_once words plant command k text (Ok parts) (Err refused) w v t h.text n)
+  -- the cause of what is answered
+  cause : (ending : Result (Unit {0}) End) → Ended words plant out ending → Said ending err result →
+      Cause result words plant out err
+  cause ending (misread at w r o e) said =
+      by_stop (record { fault = top.Words at; status = status.Words }) (subst (λ x. Said x err result) e said)
+      (λ g. (at, w, g)) (λ none. inl o.text)
+  cause ending (asked command a e) said = by_command command ending a e said
 
-  -- a text that is refused: its status, but where the source failed
-  pub refused-only : (command : Command) (text : List ℕ) (refused : Refusal) (ending : Result (Unit {0}) End) →
-      Ended ending words plant out → Said ending err result →
-      command_in words ≡ Ok command → plant.text ≡ Some text → IsJudged command text (Err refused) →
-      AnswersOr (status_of (fault_by (answers_no command refused) refused)) err.before err.now result
-      ⊎ Rose plant.before plant.now
-  refused-only command text refused (Ok done) e s w t n =
-      absurd (not_refused command text refused e.command e.parts e.plant w e.words t n)
-  refused-only command text refused (Err NoMemory) e s w t n =
-      inl (elim s [ inl m ↦ inr (inr m.1) | inr m ↦ inr (inl (m.1, m.0.fault)) ])
-  refused-only command text refused (Err (Fault (Words k))) e s w t n = absurd (cc (e.words, w))
-  refused-only command text refused (Err (Fault (Refused r))) e s w t n =
-      inl (own_refusal command text refused r false e
-      (own_answer (Refused r) err result (answer_of (Refused r) err result s)) w t n)
-  refused-only command text refused (Err (Fault (No r))) e s w t n =
-      inl (own_refusal command text refused r true e
-      (own_answer (No r) err result (answer_of (No r) err result s)) w t n)
-  refused-only command text refused (Err (Fault ReadPlant)) e s w t n = inr e.fault
-  refused-only command text refused (Err (Fault WriteOut)) e s w t n =
-      absurd (not_refused command text refused e.command e.parts e.plant w e.words t n)
+  pub caused : (own : Status) (ending : Result (Unit {0}) End) → Ended words plant out ending → Said ending err result →
+      result ≡ own → Cause own words plant out err
+  caused own ending e said d = subst (λ s. Cause s words plant out err) d (cause ending e said)
 
-  -- read fault: the source counted one
-  pub read-failed : (ending : Result (Unit {0}) End) → Ended ending words plant out → Said ending err result →
-      result ≡ status.ReadFault →
-      Rose plant.before plant.now × WasGiven err (fault_line ReadPlant) × IsUnwritten out
-  read-failed (Ok done) e s d = absurd (cc (s.1, d))
-  read-failed (Err NoMemory) e (inl s) d = absurd (cc (s.1, d))
-  read-failed (Err NoMemory) e (inr s) d = absurd (cc (s.1, d))
-  read-failed (Err (Fault fault)) e s d =
-      let n = read_named fault err result (answer_of fault err result s) d in
-      let e : Ended (Err (Fault ReadPlant)) words plant out = subst (λ f. Ended (Err (Fault f)) words plant out) n.0 e in
-      (e.fault, n.1, e.output)
+  -- refused words have their status
+  pub words-only : (at : ℕ) (ending : Result (Unit {0}) End) → Ended words plant out ending →
+      Said ending err result → command_in words ≡ Err at → AnswersOr status.Words err.before err.now result
+  words-only at ending (misread k w r o e) said d =
+      own_or (record { fault = top.Words k; status = status.Words }) err result (subst (λ x. Said x err result) e said)
+  words-only at ending (asked command a e) said d = absurd (cc (a, d))
 
-  -- write fault: the output counted one, and its line was given; or the errors counted one
-  pub write-failed : (ending : Result (Unit {0}) End) → Ended ending words plant out → Said ending err result →
-      result ≡ status.WriteFault →
-      (Rose out.before out.now × WasGiven err (fault_line WriteOut)) ⊎ Rose err.before err.now
-  write-failed (Ok done) e s d = absurd (cc (s.1, d))
-  write-failed (Err NoMemory) e (inl s) d = absurd (cc (s.1, d))
-  write-failed (Err NoMemory) e (inr s) d = inr s.0.fault
-  write-failed (Err (Fault fault)) e s d = elim (write_named fault err result (answer_of fault err result s) d) [
-    | inl r ↦ inr r
-    | inr w ↦
-        let e : Ended (Err (Fault WriteOut)) words plant out = subst (λ f. Ended (Err (Fault f)) words plant out) w.0 e in
-        inl (e.output.fault, w.1)
-  ]
+  module _ (command : Command) (bytes : List ℕ) (told : plant.text ≡ Some bytes) where
+    -- the end on the text of a course, and of a refusal
+    course_end_on : (parts : FileParts) (c : Course) → SaysParts plant parts → IsWork command parts c →
+        IsEndOn command bytes c.stop
+    course_end_on parts c says work =
+        course parts c (at_text plant.text bytes (λ text. IsJudged text (Ok parts)) told says.text) work refl
 
-  -- want of memory: its line was given
-  pub memory-said : (ending : Result (Unit {0}) End) → Ended ending words plant out → Said ending err result →
-      result ≡ status.NoMemory → WasGiven err memory_line
-  memory-said (Ok done) e s d = absurd (cc (s.1, d))
-  memory-said (Err NoMemory) e (inl s) d = s.0
-  memory-said (Err NoMemory) e (inr s) d = absurd (cc (s.1, d))
-  memory-said (Err (Fault fault)) e s d = memory_named fault err result (answer_of fault err result s) d
+    refusal_on : (fault : TopFault) → IsRefused plant fault → IsEndOn command bytes (Some (stop_by command fault))
+    refusal_on fault r =
+        refusal fault (at_text plant.text bytes (λ text. IsJudged text (Err fault)) told r.text) refl
 
-  -- complete: where no device failed, a plant's text is done, or memory ran out
-  pub whole-done : (command : Command) (text : List ℕ) (parts : FileParts) (ending : Result (Unit {0}) End) →
-      Ended ending words plant out → Said ending err result →
-      command_in words ≡ Ok command → plant.text ≡ Some text → IsJudged command text (Ok parts) →
-      (Rose plant.before plant.now → ⊥) → (Rose out.before out.now → ⊥) → (Rose err.before err.now → ⊥) →
+    -- a stop has its status, but where the source failed
+    at_stop_of_work : (stop : Stop) (parts : FileParts) (ending : Result (Unit {0}) End) → SaysParts plant parts →
+        WorkEnded command parts out ending → Said ending err result → IsEndOn command bytes (Some stop) →
+        AnswersOr stop.status err.before err.now result
+    at_stop_of_work stop parts ending says (ended.through c work stood e) said ends =
+        let same = end-unique command bytes c.stop (Some stop) (course_end_on parts c says work) ends in
+        own_or stop err result (subst (λ x. Said x err result) (e ∙ ap course_end same) said)
+    at_stop_of_work stop parts ending says (ended.broken c work some broke e) said ends =
+        let same = end-unique command bytes c.stop (Some stop) (course_end_on parts c says work) ends in
+        absurd (some (course-stops command parts c stop work.course same).text)
+    at_stop_of_work stop parts ending says (ended.early o e) said ends =
+        memory_or stop.status err result (subst (λ x. Said x err result) e said)
+    at_stop_of_work stop parts ending says (ended.within c k work stood e) said ends =
+        memory_or stop.status err result (subst (λ x. Said x err result) e said)
+
+    at_stop : (stop : Stop) (ending : Result (Unit {0}) End) → CommandEnded command plant out ending →
+        Said ending err result → IsEndOn command bytes (Some stop) →
+        AnswersOr stop.status err.before err.now result ⊎ Rose plant.before plant.now
+    at_stop stop ending (ended.refused fault r o e) said ends =
+        let same : stop_by command fault ≡ stop =
+        cc (end-unique command bytes (Some (stop_by command fault)) (Some stop) (refusal_on fault r) ends) in
+        inl (own_or stop err result (subst (λ x. Said x err result) (e ∙ ap (λ s. Err (Stopped s)) same) said))
+    at_stop stop ending (ended.unread rose o e) said ends = inr rose
+    at_stop stop ending (ended.starved o e) said ends =
+        inl (memory_or stop.status err result (subst (λ x. Said x err result) e said))
+    at_stop stop ending (ended.worked parts says w) said ends = inl (at_stop_of_work stop parts ending says w said ends)
+
+    -- a text on which the command ends with no stop is done, where no device fails and memory is there
+    at_end_of_work : (parts : FileParts) (ending : Result (Unit {0}) End) → SaysParts plant parts →
+        WorkEnded command parts out ending → Said ending err result → IsEndOn command bytes None →
+        ¬ Rose out.before out.now → ¬ Rose err.before err.now →
+        (result ≡ status.Done) ⊎ (result ≡ status.NoMemory)
+    at_end_of_work parts ending says (ended.through c work stood e) said ends o r =
+        let same = end-unique command bytes c.stop None (course_end_on parts c says work) ends in
+        let s : IsUnwritten err × (result ≡ status.Done) =
+        subst (λ x. Said x err result) (e ∙ ap course_end same) said in
+        inl s.1
+    at_end_of_work parts ending says (ended.broken c work some broke e) said ends o r = absurd (o broke.fault)
+    at_end_of_work parts ending says (ended.early w e) said ends o r =
+        memory_alone err result (subst (λ x. Said x err result) e said) r
+    at_end_of_work parts ending says (ended.within c k work stood e) said ends o r =
+        memory_alone err result (subst (λ x. Said x err result) e said) r
+
+    at_whole : (ending : Result (Unit {0}) End) → CommandEnded command plant out ending →
+        Said ending err result → IsEndOn command bytes None →
+        ¬ Rose plant.before plant.now → ¬ Rose out.before out.now → ¬ Rose err.before err.now →
+        (result ≡ status.Done) ⊎ (result ≡ status.NoMemory)
+    at_whole ending (ended.refused fault d w e) said ends p o r =
+        absurd (cc (end-unique command bytes (Some (stop_by command fault)) None (refusal_on fault d) ends))
+    at_whole ending (ended.unread rose w e) said ends p o r = absurd (p rose)
+    at_whole ending (ended.starved w e) said ends p o r =
+        memory_alone err result (subst (λ x. Said x err result) e said) r
+    at_whole ending (ended.worked parts says w) said ends p o r = at_end_of_work parts ending says w said ends o r
+
+  -- the command that ended is the one that was asked for
+  this_command : (command k : Command) (ending : Result (Unit {0}) End) → command_in words ≡ Ok command →
+      command_in words ≡ Ok k → CommandEnded k plant out ending → CommandEnded command plant out ending
+  this_command command k ending a b e =
+      let same : k ≡ command = cc (a, b) in subst (λ c. CommandEnded c plant out ending) same e
+
+  pub stopped-only : (command : Command) (bytes : List ℕ) (stop : Stop) (ending : Result (Unit {0}) End) →
+      Ended words plant out ending → Said ending err result → command_in words ≡ Ok command →
+      plant.text ≡ Some bytes → IsEndOn command bytes (Some stop) →
+      AnswersOr stop.status err.before err.now result ⊎ Rose plant.before plant.now
+  stopped-only command bytes stop ending (misread at w r o e) said a t ends = absurd (cc (a, w))
+  stopped-only command bytes stop ending (asked k b e) said a t ends =
+      at_stop command bytes t stop ending (this_command command k ending a b e) said ends
+
+  pub complete : (command : Command) (bytes : List ℕ) (ending : Result (Unit {0}) End) →
+      Ended words plant out ending → Said ending err result → command_in words ≡ Ok command →
+      plant.text ≡ Some bytes → IsEndOn command bytes None →
+      ¬ Rose plant.before plant.now → ¬ Rose out.before out.now → ¬ Rose err.before err.now →
       (result ≡ status.Done) ⊎ (result ≡ status.NoMemory)
-  whole-done command text parts (Ok done) e s w t n p o r = inl s.1
-  whole-done command text parts (Err NoMemory) e (inl s) w t n p o r = inr s.1
-  whole-done command text parts (Err NoMemory) e (inr s) w t n p o r = absurd (r s.0.fault)
-  whole-done command text parts (Err (Fault (Words k))) e s w t n p o r = absurd (cc (e.words, w))
-  whole-done command text parts (Err (Fault (Refused refused))) e s w t n p o r =
-      absurd (cc (judged_once words plant command e.command text (Err refused) (Ok parts) w e.words t e.plant.text n))
-  whole-done command text parts (Err (Fault (No refused))) e s w t n p o r =
-      absurd (cc (judged_once words plant command e.command text (Err refused) (Ok parts) w e.words t e.plant.text n))
-  whole-done command text parts (Err (Fault ReadPlant)) e s w t n p o r = absurd (p e.fault)
-  whole-done command text parts (Err (Fault WriteOut)) e s w t n p o r = absurd (o e.output.fault)
-
--- what was written is the command's output for the source's text
-pub wrote-output : (words : List (List ℕ)) (plant : SourceUse) (out : SinkUse) (command : Command) → Wrote words plant out →
-    command_in words ≡ Ok command →
-    WritesOutput command plant.text plant.left out.had out.has
-wrote-output words plant out command w asked =
-    let same : w.command ≡ command = cc (asked, w.words) in
-    subst (λ c. WritesOutput c plant.text plant.left out.had out.has) same (elim plant.text as (λ o.
-    IfSome o (λ bytes. IsJudged w.command bytes (Ok w.parts)) → IfSome o (λ _. plant.left ≡ Some []) →
-    WritesOutput w.command o plant.left out.had out.has) [
-      | None ↦ λ h k. tt
-      | Some text ↦ λ h k. (k, (output_of w.command w.parts, (w.parts, h, refl), w.output))
-    ] w.plant.text w.plant.whole)
+  complete command bytes ending (misread at w r o e) said a t ends p q r' = absurd (cc (a, w))
+  complete command bytes ending (asked k b e) said a t ends p q r =
+      at_whole command bytes t ending (this_command command k ending a b e) said ends p q r

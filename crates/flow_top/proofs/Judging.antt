@@ -2,89 +2,86 @@
 use Rattle.std.proofs.Common.{◌≡◌, ◌<◌, ◌≤◌, ℕ, List, length, Result, Ok, Err, refl, sym, ap, subst, ◌∙◌, arith}
 use Rattle.parts.specs.Parts.{FileParts}
 use Rattle.plant.specs.Building.{Checked}
+use Rattle.plant.specs.Sound.{IsPlant}
 use Rattle.plant.specs.Verdict.{IsVerdict}
 use Rattle.plant.specs.declared.fault.PlantFault.{PlantFault}
 use Rattle.plant.proofs.PlantLaws.{verdict-unique}
 use Rattle.flow_file.specs.Plant.{parts_in}
 use Rattle.flow_file.specs.declared.fault.TextFault.{TextFault}
-use Rattle.flow_top.specs.declared.words.Command.{Command}
-use Rattle.flow_top.specs.declared.fault.Unfit.{Unfit}
-use Rattle.flow_top.specs.declared.fault.Unfit.TheVariants as unfit
-use Rattle.flow_top.specs.declared.fault.Refusal.TheVariants as refusal
-use Rattle.flow_top.specs.Judged.{Judgement, most_bytes, fit_for, IsJudged, too_long, unread, unbuilt, built, Finds}
+use Rattle.flow_top.specs.declared.fault.TopFault.TheVariants as top
+use Rattle.flow_top.specs.Faults.{fault_of_text, fault_of_plant}
+use Rattle.flow_top.specs.Judged.{Judgement, most_bytes, IsJudged, too_long, unread, unbuilt, built}
 
 -- no text is both longer than the most bytes and not
 apart : (n : ℕ) → most_bytes < n → n ≤ most_bytes → ⊥
 apart n long short = omega arith
 
--- the judgement of parts by their verdict
-abbrev of_verdict : Command → FileParts → Checked → Judgement
-of_verdict command parts (Ok done) = fit_for command parts
-of_verdict command parts (Err fault) = Err (refusal.Plant fault)
+-- the verdict on a plant
+passed : (parts : FileParts) → IsPlant parts → IsVerdict parts (Ok tt)
+passed parts plant = (plant.passes, plant.ranked, plant.shallow)
 
-module _ (command : Command) (text : List ℕ) (other : Judgement) where
+-- the judgement of parts by their verdict
+abbrev of_verdict : FileParts → Checked → Judgement
+of_verdict parts (Ok done) = Ok parts
+of_verdict parts (Err fault) = Err (fault_of_plant fault)
+
+module _ (text : List ℕ) (other : Judgement) where
   -- every judgement of a text from which parts are read is that of their verdict
   by_verdict : (parts : FileParts) (verdict : Checked) → length text ≤ most_bytes → parts_in text ≡ Ok parts →
       IsVerdict parts verdict →
-      IsJudged command text other → other ≡ of_verdict command parts verdict
+      IsJudged text other → other ≡ of_verdict parts verdict
   by_verdict parts verdict short read is (too_long long e) = absurd (apart (length text) long short)
   by_verdict parts verdict short read is (unread fault s r e) = absurd (cc (read, r))
   by_verdict parts verdict short read is (unbuilt found fault s r v e) =
       let same : found ≡ parts = cc (read, r) in
-      e ∙ ap (of_verdict command parts)
+      e ∙ ap (of_verdict parts)
       (verdict-unique parts (Err fault) verdict (subst (λ p. IsVerdict p (Err fault)) same v) is)
-  by_verdict parts verdict short read is (built found s r v e) =
+  by_verdict parts verdict short read is (built found s r plant e) =
       let same : found ≡ parts = cc (read, r) in
-      e ∙ ap (fit_for command) same
-      ∙ ap (of_verdict command parts) (verdict-unique parts (Ok tt) verdict (subst (λ p. IsVerdict p (Ok tt)) same v) is)
+      e ∙ ap Ok same
+      ∙ ap (of_verdict parts)
+      (verdict-unique parts (Ok tt) verdict (subst (λ p. IsVerdict p (Ok tt)) same (passed found plant)) is)
 
   -- every judgement of a text that is no plant's
-  by_reading : (fault : TextFault) → length text ≤ most_bytes → parts_in text ≡ Err fault → IsJudged command text other →
-      other ≡ Err (refusal.Text fault)
+  by_reading : (fault : TextFault) → length text ≤ most_bytes → parts_in text ≡ Err fault → IsJudged text other →
+      other ≡ Err (fault_of_text fault)
   by_reading fault short read (too_long long e) = absurd (apart (length text) long short)
   by_reading fault short read (unread found s r e) =
-      let same : found ≡ fault = cc (read, r) in e ∙ ap (λ f. Err (refusal.Text f)) same
+      let same : found ≡ fault = cc (read, r) in e ∙ ap (λ f. Err (fault_of_text f)) same
   by_reading fault short read (unbuilt parts found s r v e) = absurd (cc (read, r))
-  by_reading fault short read (built parts s r v e) = absurd (cc (read, r))
+  by_reading fault short read (built parts s r plant e) = absurd (cc (read, r))
 
   -- every judgement of a text longer than the most bytes
-  by_length : most_bytes < length text → IsJudged command text other → other ≡ Err refusal.TooLong
+  by_length : most_bytes < length text → IsJudged text other → other ≡ Err top.TooLong
   by_length long (too_long l e) = e
   by_length long (unread fault s r e) = absurd (apart (length text) long s)
   by_length long (unbuilt parts fault s r v e) = absurd (apart (length text) long s)
-  by_length long (built parts s r v e) = absurd (apart (length text) long s)
+  by_length long (built parts s r plant e) = absurd (apart (length text) long s)
 
 -- there is one judgement of a text at most
-pub judgement-unique : (command : Command) (text : List ℕ) (one other : Judgement) → IsJudged command text one →
-    IsJudged command text other → one ≡ other
-judgement-unique command text one other (too_long long e) j = e ∙ sym (by_length command text other long j)
-judgement-unique command text one other (unread fault short read e) j = e ∙ sym (by_reading command text other fault short read j)
-judgement-unique command text one other (unbuilt parts fault short read v e) j =
-    e ∙ sym (by_verdict command text other parts (Err fault) short read v j)
-judgement-unique command text one other (built parts short read v e) j =
-    e ∙ sym (by_verdict command text other parts (Ok tt) short read v j)
+pub judgement-unique : (text : List ℕ) (one other : Judgement) → IsJudged text one → IsJudged text other → one ≡ other
+judgement-unique text one other (too_long long e) j = e ∙ sym (by_length text other long j)
+judgement-unique text one other (unread fault short read e) j = e ∙ sym (by_reading text other fault short read j)
+judgement-unique text one other (unbuilt parts fault short read v e) j =
+    e ∙ sym (by_verdict text other parts (Err fault) short read v j)
+judgement-unique text one other (built parts short read plant e) j =
+    e ∙ sym (by_verdict text other parts (Ok tt) short read (passed parts plant) j)
 
 -- a text longer than the most bytes
-pub long-judged : (command : Command) (text : List ℕ) → most_bytes < length text → IsJudged command text (Err refusal.TooLong)
-long-judged command text long = too_long long refl
+pub long-judged : (text : List ℕ) → most_bytes < length text → IsJudged text (Err top.TooLong)
+long-judged text long = too_long long refl
 
 -- a text that is no plant's
-pub unread-judged : (command : Command) (text : List ℕ) (fault : TextFault) → length text ≤ most_bytes →
-    parts_in text ≡ Err fault →
-    IsJudged command text (Err (refusal.Text fault))
-unread-judged command text fault short read = unread fault short read refl
+pub unread-judged : (text : List ℕ) (fault : TextFault) → length text ≤ most_bytes → parts_in text ≡ Err fault →
+    IsJudged text (Err (fault_of_text fault))
+unread-judged text fault short read = unread fault short read refl
 
 -- parts that are no plant
-pub unbuilt-judged : (command : Command) (text : List ℕ) (parts : FileParts) (fault : PlantFault) → length text ≤ most_bytes →
-    parts_in text ≡ Ok parts →
-    IsVerdict parts (Err fault) → IsJudged command text (Err (refusal.Plant fault))
-unbuilt-judged command text parts fault short read verdict = unbuilt parts fault short read verdict refl
+pub unbuilt-judged : (text : List ℕ) (parts : FileParts) (fault : PlantFault) → length text ≤ most_bytes →
+    parts_in text ≡ Ok parts → IsVerdict parts (Err fault) → IsJudged text (Err (fault_of_plant fault))
+unbuilt-judged text parts fault short read verdict = unbuilt parts fault short read verdict refl
 
--- what is found of a plant is found of its text
-pub found-judged : (command : Command) (text : List ℕ) (parts : FileParts) (found : Result FileParts Unfit) →
-    length text ≤ most_bytes →
-    parts_in text ≡ Ok parts → IsVerdict parts (Ok tt) → Finds (λ j. fit_for command parts ≡ j) found →
-    Finds (IsJudged command text) found
-found-judged command text parts (Ok fit) short read verdict e = built parts short read verdict (sym e)
-found-judged command text parts (Err (unfit.Refused refused)) short read verdict e = built parts short read verdict (sym e)
-found-judged command text parts (Err unfit.NoMemory) short read verdict e = tt
+-- a plant
+pub built-judged : (text : List ℕ) (parts : FileParts) → length text ≤ most_bytes → parts_in text ≡ Ok parts → IsPlant parts →
+    IsJudged text (Ok parts)
+built-judged text parts short read plant = built parts short read plant refl

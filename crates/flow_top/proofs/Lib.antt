@@ -1,6 +1,10 @@
 pub mod Judging
-pub mod Endings
+pub mod Readings
+pub mod Writes
+pub mod Courses
+pub mod Work
 pub mod Causes
 pub mod PlantRows
+pub mod RunRows
 pub mod RankRows
 pub mod StreamCount

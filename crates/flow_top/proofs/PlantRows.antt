@@ -9,7 +9,7 @@ use Rattle.plant.specs.declared.streams.Stream.{Stream}
 use Rattle.plant.specs.Streams.{streams_of}
 use Rattle.plant.specs.Rows.{streams_of_run}
 use Rattle.report.specs.Output.{Label, rows_of, rows_from, stream_rows, tick_rows}
-use Rattle.flow_top.specs.Output.{labels_of}
+use Rattle.flow_top.specs.RunCourse.{labels_of}
 
 abbrev pub label_of : Stream → Label
 label_of stream = record { name = stream.name; signal = stream.signal }

@@ -1,9 +1,14 @@
 pub mod Words
+pub mod Faults
 pub mod Judged
-pub mod Output
+pub mod Course
+pub mod RunCourse
+pub mod CheckCourse
+pub mod Courses
 pub mod Uses
 pub mod Lines
 pub mod Ended
 pub mod Stands
 pub mod Causes
+pub mod Steps
 pub mod Worked

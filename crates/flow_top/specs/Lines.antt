@@ -1,68 +1,52 @@
 -- The error lines.
-use Rattle.std.specs.Prelude.{ℕ, ◌++◌, List, codes, decimal}
+use Rattle.std.specs.Prelude.{ℕ, ◌++◌, List, codes, decimal, Option, Some, None}
 use Rattle.std.specs.Fmt.{signed_decimal}
-use Rattle.flow_file.specs.declared.fault.TextFault.{TextFault}
-use Rattle.flow_file.specs.declared.fault.TextFault.TheVariants as text
-use Rattle.plant.specs.declared.fault.PlantFault.{PlantFault}
-use Rattle.plant.specs.declared.fault.PlantFault.TheVariants as plant
-use Rattle.flow_top.specs.declared.fault.Refusal.{Refusal}
-use Rattle.flow_top.specs.declared.fault.Refusal.TheVariants as refusal
 use Rattle.flow_top.specs.declared.fault.TopFault.{TopFault}
-use Rattle.flow_top.specs.declared.fault.TopFault.TheVariants as top
+use Rattle.flow_top.specs.declared.fault.TopFault.TheVariants.{Words, TooLong, NotToml, Format, Missing, WrongType, UnknownKey}
+use Rattle.flow_top.specs.declared.fault.TopFault.TheVariants.{OutOfRange, BadName, Twice, NoSource, WrongPort, TooMany}
+use Rattle.flow_top.specs.declared.fault.TopFault.TheVariants.{BadLimits, StartOutside, FeedPieces, FeedOutside, TableFalls}
+use Rattle.flow_top.specs.declared.fault.TopFault.TheVariants.{ColumnTooFast, InstantLoop, TooDeep, NotBuilt, ReadPlant, WriteOut}
 
-unfoldable pub text_words : TextFault → List ℕ
-text_words text.NotToml = codes "P2 not TOML"
-text_words (text.Format found) = codes "P3 format " ++ signed_decimal found
-text_words (text.Missing place) = codes "P4 missing " ++ place
-text_words (text.WrongType place) = codes "P5 wrong type " ++ place
-text_words (text.UnknownKey place) = codes "P6 unknown key " ++ place
-text_words (text.OutOfRange place) = codes "P7 out of range " ++ place
-text_words (text.BadName place) = codes "P8 bad name " ++ place
-text_words (text.TooMany place) = codes "P12 too many " ++ place
-
-unfoldable pub plant_words : PlantFault → List ℕ
-plant_words (plant.Twice name) = codes "P9 name twice " ++ name
-plant_words (plant.NoSource place) = codes "P10 no source " ++ place
-plant_words (plant.WrongPort place) = codes "P11 wrong port " ++ place
-plant_words (plant.BadLimits place) = codes "P13 bad limits " ++ place
-plant_words (plant.StartOutside place) = codes "P14 start outside " ++ place
-plant_words (plant.FeedPieces place) = codes "P15 feed pieces " ++ place
-plant_words (plant.FeedOutside place) = codes "P16 feed outside " ++ place
-plant_words (plant.TableFalls place) = codes "P17 table falls " ++ place
-plant_words (plant.ColumnTooFast unit) = codes "P18 column too fast " ++ unit
-plant_words (plant.InstantLoop unit) = codes "P19 instant loop " ++ unit
-plant_words (plant.TooDeep unit) = codes "P20 too deep " ++ unit
-
-unfoldable pub refusal_words : Refusal → List ℕ
-refusal_words refusal.TooLong = codes "P1 too long"
-refusal_words (refusal.Text fault) = text_words fault
-refusal_words (refusal.Plant fault) = plant_words fault
-refusal_words refusal.ManyWindows = codes "P0 not built yet run.ticks"
-refusal_words refusal.Widths = codes "P0 not built yet width"
+-- what a line says
+unfoldable pub fault_words : TopFault → List ℕ
+fault_words (Words at) = codes "words refused at " ++ decimal at
+fault_words TooLong = codes "P1 too long"
+fault_words NotToml = codes "P2 not TOML"
+fault_words (Format found) = codes "P3 format " ++ signed_decimal found
+fault_words (Missing place) = codes "P4 missing " ++ place
+fault_words (WrongType place) = codes "P5 wrong type " ++ place
+fault_words (UnknownKey place) = codes "P6 unknown key " ++ place
+fault_words (OutOfRange place) = codes "P7 out of range " ++ place
+fault_words (BadName place) = codes "P8 bad name " ++ place
+fault_words (Twice name) = codes "P9 name twice " ++ name
+fault_words (NoSource place) = codes "P10 no source " ++ place
+fault_words (WrongPort place) = codes "P11 wrong port " ++ place
+fault_words (TooMany place) = codes "P12 too many " ++ place
+fault_words (BadLimits place) = codes "P13 bad limits " ++ place
+fault_words (StartOutside place) = codes "P14 start outside " ++ place
+fault_words (FeedPieces place) = codes "P15 feed pieces " ++ place
+fault_words (FeedOutside place) = codes "P16 feed outside " ++ place
+fault_words (TableFalls place) = codes "P17 table falls " ++ place
+fault_words (ColumnTooFast unit) = codes "P18 column too fast " ++ unit
+fault_words (InstantLoop unit) = codes "P19 instant loop " ++ unit
+fault_words (TooDeep unit) = codes "P20 too deep " ++ unit
+fault_words (NotBuilt place) = codes "P0 not built yet " ++ place
+fault_words ReadPlant = codes "read fault on plant"
+fault_words WriteOut = codes "write fault on out"
 
 -- a line begins with the program's name
 unfoldable pub line_of : List ℕ → List ℕ
 line_of text = codes "flowrelax: " ++ text ++ codes "\n"
 
-unfoldable pub words_line : ℕ → List ℕ
-words_line at = line_of (codes "words refused at " ++ decimal at)
-
-unfoldable pub refusal_line : Refusal → List ℕ
-refusal_line refused = line_of (refusal_words refused)
-
-unfoldable pub read_line : List ℕ
-read_line = codes "flowrelax: read fault on plant\n"
-
-unfoldable pub write_line : List ℕ
-write_line = codes "flowrelax: write fault on out\n"
+-- the line of each fault, and that of want of memory
+unfoldable pub fault_line : TopFault → List ℕ
+fault_line fault = line_of (fault_words fault)
 
 unfoldable pub memory_line : List ℕ
 memory_line = codes "flowrelax: want of memory\n"
 
--- the line of each fault
-abbrev pub fault_line : TopFault → List ℕ
-fault_line (top.Words at) = words_line at
-fault_line (top.Refused refused) = refusal_line refused
-fault_line (top.No refused) = refusal_line refused
-fault_line top.ReadPlant = read_line
-fault_line top.WriteOut = write_line
+-- the lines of failed devices are the same each time, and take no memory
+abbrev pub constant_line : TopFault → Option (List ℕ)
+constant_line ReadPlant = Some (fault_line ReadPlant)
+constant_line WriteOut = Some (fault_line WriteOut)
+constant_line _ = None

@@ -1,4 +1,4 @@
--- What a call did to a source or a sink that it was handed.
+-- What a call did to the sources and the sinks that it was handed.
 use Rattle.std.specs.Prelude.{◌≡◌, ℕ, List, Option}
 use Rattle.flow_edge.specs.Faults.{Rose}
 use Rattle.flow_edge.specs.Sink.{Gives, GivesFront}
@@ -16,6 +16,14 @@ pub record SinkUse : Type 0 where
   pub has : Option (List ℕ)
   pub before : ℕ
   pub now : ℕ
+
+-- the five devices: the plant text, the feed records, the output, the trace and the error lines
+pub record Uses : Type 0 where
+  pub plant : SourceUse
+  pub extra : SourceUse
+  pub out : SinkUse
+  pub trace : SinkUse
+  pub err : SinkUse
 
 -- nothing was taken, and no fault counted
 pub record IsUnread (source : SourceUse) : Type 0 where

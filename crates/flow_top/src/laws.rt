@@ -1,37 +1,44 @@
-ghost use Rattle.std.specs.Prelude.{◌≡◌, ◌<◌, ℕ, ℤ, pos, List, [], ◌∷◌, length};
-ghost use Rattle.quant.specs.Interval.{AllHold, point, points};
+ghost use Rattle.std.specs.Prelude.{◌≡◌, ◌<◌, ◌++◌, ℕ, ℤ, pos, List, [], ◌∷◌, length, Option};
+ghost use Rattle.quant.specs.Interval.{AllHold, point};
 ghost use Rattle.flowsheet.specs.Trajectory.{IsTrajectory};
-ghost use Rattle.flowsheet.specs.Limited.{ArePoints};
-ghost use Rattle.parts.specs.Parts.{FileParts};
 ghost use Rattle.parts.specs.Given.{given_bands};
-ghost use Rattle.plant.specs.Sound.{IsPlant};
 ghost use Rattle.plant.specs.Streams.{streams_of};
 ghost use Rattle.plant.specs.Units.{plant_of, carried_of};
 ghost use Rattle.plant.specs.Rows.{streams_of_run};
+ghost use Rattle.report.specs.Output.{header};
 ghost use Rattle.flow_top.specs.declared.words.Command.{Command};
+ghost use Rattle.flow_top.specs.declared.fault.Stop.{Stop};
 ghost use Rattle.flow_top.specs.Judged.{Judgement, IsJudged};
+ghost use Rattle.flow_top.specs.Course.{text_of};
+ghost use Rattle.flow_top.specs.RunCourse.{all_rows};
+ghost use Rattle.flow_top.specs.Causes.{WroteAll, IsEndOn};
 ghost use Rattle.flow_top.specs.Worked.{worked, between};
 
+use flowsheet::trajectories_lie_in_the_run;
 use plant::built_plants_are_plants;
 
-/// The bands that are printed for a plant hold each of its trajectories, at every tick that is printed, stream and channel.
-/// Where each opening band and each feed is one number, they are the trajectory's values.
+/// The bands that a done `run` printed hold each trajectory of its plant, at every tick that is printed, stream and channel.
+/// Where each opening band is one number, and each feed at the printed ticks, they are the trajectory's values. Each plant has
+/// a trajectory.
 pub fn printed_bands_hold_trajectories()
-    ensures holds { (parts : FileParts) (x y : ℕ → ℕ → List ℤ) → IsPlant parts →
-        IsTrajectory (plant_of parts) (carried_of parts) (given_bands parts) parts.ticks x y →
-        (tick s : ℕ) → tick < parts.ticks → s < length (streams_of parts) → AllHold (streams_of_run parts tick s) (x tick s) }
-    ensures values { (parts : FileParts) (x y : ℕ → ℕ → List ℤ) → IsPlant parts →
-        ArePoints (carried_of parts) (given_bands parts) →
-        IsTrajectory (plant_of parts) (carried_of parts) (given_bands parts) parts.ticks x y →
-        (tick s : ℕ) → tick < parts.ticks → s < length (streams_of parts) → streams_of_run parts tick s ≡ points (x tick s) }
+    // What was printed: the header and the rows of the interval run.
+    ensures printed { (words : List (List ℕ)) (text left had has : Option (List ℕ)) (done : WroteAll words text left had has) →
+        done.command ≡ Command.Run → text_of done.course ≡ header ++ all_rows done.parts }
+    ensures holds { (words : List (List ℕ)) (text left had has : Option (List ℕ)) (done : WroteAll words text left had has)
+        (x y : ℕ → ℕ → List ℤ) →
+        IsTrajectory (plant_of done.parts) (carried_of done.parts) (given_bands done.parts) done.parts.ticks x y →
+        (tick s : ℕ) → tick < done.parts.ticks → s < length (streams_of done.parts) →
+        AllHold (streams_of_run done.parts tick s) (x tick s) }
 {
     built_plants_are_plants();
+    trajectories_lie_in_the_run();
 }
 
-/// There is one judgement of a text at most.
-pub fn judgements_are_unique()
-    ensures { (command : Command) (text : List ℕ) (one other : Judgement) →
-        IsJudged command text one → IsJudged command text other → one ≡ other }
+/// Each text has one judgement, and each command one end on it.
+pub fn texts_are_judged_once()
+    ensures judged_once { (text : List ℕ) (one other : Judgement) → IsJudged text one → IsJudged text other → one ≡ other }
+    ensures ends_once { (command : Command) (text : List ℕ) (one other : Option Stop) →
+        IsEndOn command text one → IsEndOn command text other → one ≡ other }
 {}
 
 /// The bands of a worked tank: its level at three ticks, and its outflow at the last.

@@ -1,16 +1,20 @@
 //! The one call that the program makes.
 #![tactic(auto)]
 
+mod check;
 mod fault;
 mod laws;
 mod lines;
-mod rows;
+mod pieces;
+mod plant_text;
+mod run;
+mod saying;
+mod stops;
 mod top;
 mod words;
 
-pub use laws::{judgements_are_unique, printed_bands_hold_trajectories, worked_bands};
+pub use fault::{Stop, TopFault};
+pub use laws::{printed_bands_hold_trajectories, texts_are_judged_once, worked_bands};
 pub use lines::memory_line;
 pub use top::flow_top;
-
-#[cfg(test)]
-mod tests;
+pub use words::Command;

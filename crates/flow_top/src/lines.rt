@@ -1,11 +1,11 @@
-ghost use Rattle.std.specs.Prelude.{◌≡◌, ◌++◌, IfOk};
-ghost use Rattle.flow_top.specs.Lines.{text_words, plant_words, line_of, words_line, refusal_line, read_line, write_line};
-ghost use Rattle.flow_top.specs.Lines.{memory_line};
-ghost use Rattle.flow_file.specs.declared.fault.TextFault.TheVariants.{Format};
+//! The error lines.
 
-use crate::fault::Refusal;
-use flow_file::TextFault;
-use plant::PlantFault;
+ghost use Rattle.std.specs.Prelude.{◌≡◌, ◌++◌, IfOk};
+ghost use Rattle.std.specs.Option.{option_map};
+ghost use Rattle.flow_top.specs.Lines.{fault_words, line_of, fault_line, constant_line, memory_line};
+ghost use Rattle.flow_top.specs.declared.fault.TopFault.TheVariants.{Words, Format};
+
+use crate::fault::TopFault;
 use quant::{Place, Text};
 use std::alloc::{AllocError, Global};
 
@@ -17,111 +17,87 @@ pub fn memory_line() -> &'static [u8]
     b"flowrelax: want of memory\n"
 }
 
-/// The line of a plant that could not be read.
-#[tactic(auto, unfolding(crate::specs::Lines::read_line))]
-pub fn read_line() -> &'static [u8]
-    ensures { result.now ≡ read_line }
+/// The line of a failed device, which takes no memory.
+#[tactic(auto, unfolding(crate::specs::Lines::fault_line, crate::specs::Lines::line_of, crate::specs::Lines::fault_words))]
+pub fn constant_line(fault: &TopFault) -> Option<&'static [u8]>
+    ensures { option_map (λ line. line.now) result ≡ constant_line fault.now }
 {
-    b"flowrelax: read fault on plant\n"
+    match fault {
+        TopFault::ReadPlant => Some(b"flowrelax: read fault on plant\n"),
+        TopFault::WriteOut => Some(b"flowrelax: write fault on out\n"),
+        _ => None,
+    }
 }
 
-/// The line of an output that could not be written.
-#[tactic(auto, unfolding(crate::specs::Lines::write_line))]
-pub fn write_line() -> &'static [u8]
-    ensures { result.now ≡ write_line }
+/// The line of a fault.
+#[tactic(auto, unfolding(crate::specs::Lines::fault_line, crate::specs::Lines::fault_words))]
+pub fn fault_line(alloc: Global, fault: &TopFault) -> Result<Vec<u8>, AllocError>
+    ensures { IfOk result (λ line. line.items ≡ fault_line fault.now) }
 {
-    b"flowrelax: write fault on out\n"
+    match fault {
+        TopFault::Words { at } => words_line(alloc, *at),
+        TopFault::TooLong => line_of(alloc, b"P1 too long", b""),
+        TopFault::NotToml => line_of(alloc, b"P2 not TOML", b""),
+        TopFault::Format { found } => format_line(alloc, *found),
+        TopFault::Missing { place } => place_line(alloc, b"P4 missing ", place),
+        TopFault::WrongType { place } => place_line(alloc, b"P5 wrong type ", place),
+        TopFault::UnknownKey { place } => place_line(alloc, b"P6 unknown key ", place),
+        TopFault::OutOfRange { place } => place_line(alloc, b"P7 out of range ", place),
+        TopFault::BadName { place } => place_line(alloc, b"P8 bad name ", place),
+        TopFault::Twice { name } => name_line(alloc, b"P9 name twice ", name),
+        TopFault::NoSource { place } => place_line(alloc, b"P10 no source ", place),
+        TopFault::WrongPort { place } => place_line(alloc, b"P11 wrong port ", place),
+        TopFault::TooMany { place } => place_line(alloc, b"P12 too many ", place),
+        TopFault::BadLimits { place } => place_line(alloc, b"P13 bad limits ", place),
+        TopFault::StartOutside { place } => place_line(alloc, b"P14 start outside ", place),
+        TopFault::FeedPieces { place } => place_line(alloc, b"P15 feed pieces ", place),
+        TopFault::FeedOutside { place } => place_line(alloc, b"P16 feed outside ", place),
+        TopFault::TableFalls { place } => place_line(alloc, b"P17 table falls ", place),
+        TopFault::ColumnTooFast { unit } => name_line(alloc, b"P18 column too fast ", unit),
+        TopFault::InstantLoop { unit } => name_line(alloc, b"P19 instant loop ", unit),
+        TopFault::TooDeep { unit } => name_line(alloc, b"P20 too deep ", unit),
+        TopFault::NotBuilt { place } => place_line(alloc, b"P0 not built yet ", place),
+        TopFault::ReadPlant => line_of(alloc, b"read fault on plant", b""),
+        TopFault::WriteOut => line_of(alloc, b"write fault on out", b""),
+    }
 }
 
-/// The error line of refused words.
-#[tactic(auto, unfolding(crate::specs::Lines::words_line, crate::specs::Lines::line_of))]
-pub fn words_line(alloc: Global, at: u32) -> Result<Vec<u8>, AllocError>
-    ensures { IfOk result (λ line. line.items ≡ words_line at) }
+#[tactic(auto, unfolding(crate::specs::Lines::line_of, crate::specs::Lines::fault_words))]
+fn words_line(alloc: Global, at: u32) -> Result<Vec<u8>, AllocError>
+    ensures { IfOk result (λ line. line.items ≡ line_of (fault_words (Words at))) }
 {
     Ok(format!(in alloc; "flowrelax: words refused at {at}\n")?.into_bytes())
 }
 
-/// The error line of a plant that is refused.
-#[tactic(auto, unfolding(crate::specs::Lines::refusal_line, crate::specs::Lines::refusal_words))]
-pub fn refusal_line(alloc: Global, refusal: &Refusal) -> Result<Vec<u8>, AllocError>
-    ensures { IfOk result (λ line. line.items ≡ refusal_line refusal.now) }
-{
-    match refusal {
-        Refusal::TooLong => joined_line(alloc, b"P1 too long", b""),
-        Refusal::Text(fault) => text_line(alloc, fault),
-        Refusal::Plant(fault) => plant_line(alloc, fault),
-        Refusal::ManyWindows => joined_line(alloc, b"P0 not built yet ", b"run.ticks"),
-        Refusal::Widths => joined_line(alloc, b"P0 not built yet ", b"width"),
-    }
-}
-
-/// The error line of a text that is not a plant's.
-#[tactic(auto, unfolding(crate::specs::Lines::text_words))]
-fn text_line(alloc: Global, fault: &TextFault) -> Result<Vec<u8>, AllocError>
-    ensures { IfOk result (λ line. line.items ≡ line_of (text_words fault.now)) }
-{
-    match fault {
-        TextFault::NotToml => joined_line(alloc, b"P2 not TOML", b""),
-        TextFault::Format { found } => format_line(alloc, *found),
-        TextFault::Missing { place } => place_line(alloc, b"P4 missing ", place),
-        TextFault::WrongType { place } => place_line(alloc, b"P5 wrong type ", place),
-        TextFault::UnknownKey { place } => place_line(alloc, b"P6 unknown key ", place),
-        TextFault::OutOfRange { place } => place_line(alloc, b"P7 out of range ", place),
-        TextFault::BadName { place } => place_line(alloc, b"P8 bad name ", place),
-        TextFault::TooMany { place } => place_line(alloc, b"P12 too many ", place),
-    }
-}
-
-/// The error line of another format than 1.
-#[tactic(auto, unfolding(crate::specs::Lines::line_of, crate::specs::Lines::text_words))]
+#[tactic(auto, unfolding(crate::specs::Lines::line_of, crate::specs::Lines::fault_words))]
 fn format_line(alloc: Global, found: i64) -> Result<Vec<u8>, AllocError>
-    ensures { IfOk result (λ line. line.items ≡ line_of (text_words (Format found))) }
+    ensures { IfOk result (λ line. line.items ≡ line_of (fault_words (Format found))) }
 {
     Ok(format!(in alloc; "flowrelax: P3 format {found}\n")?.into_bytes())
-}
-
-/// The error line of parts that are no plant.
-#[tactic(auto, unfolding(crate::specs::Lines::plant_words))]
-fn plant_line(alloc: Global, fault: &PlantFault) -> Result<Vec<u8>, AllocError>
-    ensures { IfOk result (λ line. line.items ≡ line_of (plant_words fault.now)) }
-{
-    match fault {
-        PlantFault::Twice { name } => name_line(alloc, b"P9 name twice ", name),
-        PlantFault::NoSource { place } => place_line(alloc, b"P10 no source ", place),
-        PlantFault::WrongPort { place } => place_line(alloc, b"P11 wrong port ", place),
-        PlantFault::BadLimits { place } => place_line(alloc, b"P13 bad limits ", place),
-        PlantFault::StartOutside { place } => place_line(alloc, b"P14 start outside ", place),
-        PlantFault::FeedPieces { place } => place_line(alloc, b"P15 feed pieces ", place),
-        PlantFault::FeedOutside { place } => place_line(alloc, b"P16 feed outside ", place),
-        PlantFault::TableFalls { place } => place_line(alloc, b"P17 table falls ", place),
-        PlantFault::ColumnTooFast { unit } => name_line(alloc, b"P18 column too fast ", unit),
-        PlantFault::InstantLoop { unit } => name_line(alloc, b"P19 instant loop ", unit),
-        PlantFault::TooDeep { unit } => name_line(alloc, b"P20 too deep ", unit),
-    }
 }
 
 /// The line that says what went wrong, and where.
 fn place_line(alloc: Global, what: &[u8], place: &Place) -> Result<Vec<u8>, AllocError>
     ensures { IfOk result (λ line. line.items ≡ line_of (what.now ++ place.now)) }
 {
-    joined_line(alloc, what, place.as_bytes())
+    line_of(alloc, what, place.as_bytes())
 }
 
 /// The line that says what went wrong, and under what name.
 fn name_line(alloc: Global, what: &[u8], name: &Text) -> Result<Vec<u8>, AllocError>
     ensures { IfOk result (λ line. line.items ≡ line_of (what.now ++ name.now)) }
 {
-    joined_line(alloc, what, name.as_bytes())
+    line_of(alloc, what, name.as_bytes())
 }
 
 /// The line of two texts, one after the other.
 #[tactic(auto, unfolding(crate::specs::Lines::line_of))]
-fn joined_line(alloc: Global, what: &[u8], place: &[u8]) -> Result<Vec<u8>, AllocError>
-    ensures { IfOk result (λ line. line.items ≡ line_of (what.now ++ place.now)) }
+fn line_of(alloc: Global, what: &[u8], which: &[u8]) -> Result<Vec<u8>, AllocError>
+    ensures { IfOk result (λ line. line.items ≡ line_of (what.now ++ which.now)) }
 {
     let mut line = Vec::from_slice(alloc, b"flowrelax: ")?;
     line.extend_from_slice(what)?;
-    line.extend_from_slice(place)?;
+    line.extend_from_slice(which)?;
     line.extend_from_slice(b"\n")?;
     Ok(line)
 }

@@ -1,0 +1,116 @@
+-- The courses of the commands.
+use Rattle.std.proofs.Common.{◌≡◌, ◌≢◌, ℕ, zero, suc, ◌+◌, ◌-◌, ◌*◌, ◌<◌, ◌≤◌, ◌++◌, min, nat_lt, refl, sym, ap, subst, ◌∙◌}
+use Rattle.std.proofs.Common.{Bool, true, false, List, [], ◌∷◌, Option, Some, None, if◌then◌else◌, arith, codes}
+use Rattle.parts.specs.Parts.{FileParts}
+use Rattle.parts.specs.InRange.{AreInRange}
+use Rattle.plant.specs.Rows.{streams_of_run}
+use Rattle.plant.specs.Sound.{IsPlant}
+use Rattle.report.specs.Output.{header, rank_header, rows_of}
+use Rattle.flow_edge.specs.declared.status.Status.TheVariants as status
+use Rattle.flow_top.specs.declared.fault.Stop.{Stop}
+use Rattle.flow_top.specs.declared.fault.TopFault.TheVariants as top
+use Rattle.flow_top.specs.declared.words.Command.{Command}
+use Rattle.flow_top.specs.declared.words.Command.TheVariants.{Run, Check}
+use Rattle.flow_top.specs.Course.{Course, written, text_of}
+use Rattle.flow_top.specs.Courses.{IsCourse, IsWork}
+use Rattle.flow_top.specs.RunCourse.{labels_of, all_rows, window_rows, ticks_in, asks_for_widths, not_built, RunsUnless, RunsWhole, StopsAtOnce, IsWindowCount}
+use Rattle.flow_top.specs.CheckCourse.{rank_rows, IsCheckCourse}
+
+-- the course of a run that is not built yet
+abbrev pub stopped_course : List ℕ → Course
+stopped_course place = record {
+  header = [];
+  windows = 0;
+  rows = λ w. [];
+  stop = Some (record { fault = top.NotBuilt place; status = status.Refused });
+}
+
+-- the course of a run in one window, and that of a check
+abbrev pub run_course : FileParts → Course
+run_course parts = record { header = header; windows = 1; rows = λ w. window_rows parts w; stop = None }
+
+abbrev pub check_course : FileParts → Course
+check_course parts = record { header = rank_header; windows = 1; rows = λ w. rank_rows parts; stop = None }
+
+pub stopped-work : (parts : FileParts) (place : List ℕ) → IsPlant parts → not_built parts ≡ Some place →
+    IsWork Run parts (stopped_course place)
+stopped-work parts place plant e =
+    let stops : StopsAtOnce place (stopped_course place) = record { header = refl; windows = refl; stop = refl } in
+    record { plant = plant; course = subst (λ n. RunsUnless n parts (stopped_course place)) (sym e) stops }
+
+-- what is built runs in one window
+in_one_window : (more : Bool) (place : List ℕ) (rest : Option (List ℕ)) → (if more then Some place else rest) ≡ None → more ≡ false
+in_one_window true place rest e = absurd (cc e)
+in_one_window false place rest e = refl
+
+not_less : (a b : ℕ) → nat_lt a b ≡ false → b ≤ a
+not_less a b e = grind (arith, e)
+
+one-window : (parts : FileParts) → not_built parts ≡ None → parts.ticks ≤ parts.window
+unfolding not_built
+one-window parts e = not_less parts.window parts.ticks (in_one_window (nat_lt parts.window parts.ticks) (codes "run.ticks")
+    (if asks_for_widths parts.width then Some (codes "width") else None) e)
+
+count-one : (ticks window : ℕ) → 1 ≤ ticks → (fewer : ℕ) → ticks ≤ fewer * window → 1 ≤ fewer
+count-one ticks window some zero h = absurd (omega (arith, some, h))
+count-one ticks window some (suc fewer) h = omega arith
+
+-- the rows of the one window are all
+first-window : (parts : FileParts) → parts.ticks ≤ parts.window → window_rows parts 0 ≡ all_rows parts
+first-window parts h =
+    ap (λ first. rows_of (labels_of parts) (streams_of_run parts) first (ticks_in parts 0)) (omega arith)
+    ∙ ap (rows_of (labels_of parts) (streams_of_run parts) 0) (omega arith)
+
+pub run-work : (parts : FileParts) → IsPlant parts → not_built parts ≡ None → IsWork Run parts (run_course parts)
+run-work parts plant e =
+    let short : parts.ticks ≤ parts.window = one-window parts e in
+    let runs : RunsWhole parts (run_course parts) = record {
+      header = refl;
+      windows = record { enough = omega arith; least = count-one parts.ticks parts.window plant.ranges.ticks.0 };
+      rows = λ w h. refl;
+      stop = refl;
+    } in
+    record { plant = plant; course = subst (λ n. RunsUnless n parts (run_course parts)) (sym e) runs }
+
+pub run-text : (parts : FileParts) → not_built parts ≡ None → text_of (run_course parts) ≡ header ++ all_rows parts
+run-text parts e = ap (λ rows. header ++ rows) (first-window parts (one-window parts e))
+
+pub check-work : (parts : FileParts) → IsPlant parts → IsWork Check parts (check_course parts)
+check-work parts plant = record { plant = plant; course = record { header = refl; windows = refl; rows = refl; stop = refl } }
+
+-- a header is not empty
+pub run-writes : (rows : List ℕ) → header ++ rows ≢ []
+unfolding header
+run-writes rows e = cc e
+
+pub check-writes : (rows : List ℕ) → rank_header ++ rows ≢ []
+unfolding rank_header
+check-writes rows e = cc e
+
+-- the courses of a command on one plant have one stop
+runs-agree : (place : Option (List ℕ)) (parts : FileParts) (a b : Course) → RunsUnless place parts a → RunsUnless place parts b →
+    a.stop ≡ b.stop
+runs-agree None parts a b r s = r.stop ∙ sym s.stop
+runs-agree (Some place) parts a b r s = r.stop ∙ sym s.stop
+
+pub courses-agree : (command : Command) (parts : FileParts) (a b : Course) → IsCourse command parts a → IsCourse command parts b →
+    a.stop ≡ b.stop
+courses-agree Run parts a b r s = runs-agree (not_built parts) parts a b r s
+courses-agree Check parts a b r s = r.stop ∙ sym s.stop
+
+-- today a course that stops writes nothing, and its stop is a refusal
+pub record WritesNothing (course : Course) (stop : Stop) : Type 0 where
+  pub text : text_of course ≡ []
+  pub refused : stop.status ≡ status.Refused
+
+run-stops : (place : Option (List ℕ)) (parts : FileParts) (course : Course) (stop : Stop) → RunsUnless place parts course →
+    course.stop ≡ Some stop → WritesNothing course stop
+run-stops None parts course stop r e = absurd (cc (r.stop, e))
+run-stops (Some place) parts course stop r e =
+    let same : record { fault = top.NotBuilt place; status = status.Refused } ≡ stop = cc (r.stop, e) in
+    record { text = ap (written course) r.windows ∙ r.header; refused = sym (ap (λ (s : Stop). s.status) same) }
+
+pub course-stops : (command : Command) (parts : FileParts) (course : Course) (stop : Stop) → IsCourse command parts course →
+    course.stop ≡ Some stop → WritesNothing course stop
+course-stops Run parts course stop r e = run-stops (not_built parts) parts course stop r e
+course-stops Check parts course stop r e = absurd (cc (r.stop, e))

@@ -1,0 +1,17 @@
+-- The course of each command. A command is added here.
+use Rattle.parts.specs.Parts.{FileParts}
+use Rattle.plant.specs.Sound.{IsPlant}
+use Rattle.flow_top.specs.declared.words.Command.{Command}
+use Rattle.flow_top.specs.declared.words.Command.TheVariants.{Run, Check}
+use Rattle.flow_top.specs.Course.{Course}
+use Rattle.flow_top.specs.RunCourse.{IsRunCourse}
+use Rattle.flow_top.specs.CheckCourse.{IsCheckCourse}
+
+abbrev pub IsCourse : Command → FileParts → Course → Type 0
+IsCourse Run parts course = IsRunCourse parts course
+IsCourse Check parts course = IsCheckCourse parts course
+
+-- the parts are a plant, and this is what the command does on it
+pub record IsWork (command : Command) (parts : FileParts) (work : Course) : Type 0 where
+  pub plant : IsPlant parts
+  pub course : IsCourse command parts work

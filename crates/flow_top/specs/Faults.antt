@@ -1,0 +1,53 @@
+-- What goes wrong, and the status that a command gives it.
+use Rattle.flow_edge.specs.declared.status.Status.{Status}
+use Rattle.flow_edge.specs.declared.status.Status.TheVariants as status
+use Rattle.flow_file.specs.declared.fault.TextFault.{TextFault}
+use Rattle.flow_file.specs.declared.fault.TextFault.TheVariants as text
+use Rattle.plant.specs.declared.fault.PlantFault.{PlantFault}
+use Rattle.plant.specs.declared.fault.PlantFault.TheVariants as plant
+use Rattle.flow_top.specs.declared.words.Command.{Command}
+use Rattle.flow_top.specs.declared.words.Command.TheVariants.{Run, Check}
+use Rattle.flow_top.specs.declared.fault.TopFault.{TopFault}
+use Rattle.flow_top.specs.declared.fault.TopFault.TheVariants as top
+use Rattle.flow_top.specs.declared.fault.Stop.{Stop}
+
+-- the refusal of a text, and of the parts that it says, among all faults
+unfoldable pub fault_of_text : TextFault → TopFault
+fault_of_text text.NotToml = top.NotToml
+fault_of_text (text.Format found) = top.Format found
+fault_of_text (text.Missing place) = top.Missing place
+fault_of_text (text.WrongType place) = top.WrongType place
+fault_of_text (text.UnknownKey place) = top.UnknownKey place
+fault_of_text (text.OutOfRange place) = top.OutOfRange place
+fault_of_text (text.BadName place) = top.BadName place
+fault_of_text (text.TooMany place) = top.TooMany place
+
+unfoldable pub fault_of_plant : PlantFault → TopFault
+fault_of_plant (plant.Twice name) = top.Twice name
+fault_of_plant (plant.NoSource place) = top.NoSource place
+fault_of_plant (plant.WrongPort place) = top.WrongPort place
+fault_of_plant (plant.BadLimits place) = top.BadLimits place
+fault_of_plant (plant.StartOutside place) = top.StartOutside place
+fault_of_plant (plant.FeedPieces place) = top.FeedPieces place
+fault_of_plant (plant.FeedOutside place) = top.FeedOutside place
+fault_of_plant (plant.TableFalls place) = top.TableFalls place
+fault_of_plant (plant.ColumnTooFast unit) = top.ColumnTooFast unit
+fault_of_plant (plant.InstantLoop unit) = top.InstantLoop unit
+fault_of_plant (plant.TooDeep unit) = top.TooDeep unit
+
+-- the status of a fault: a plant is refused, or a device failed
+unfoldable pub own_status : TopFault → Status
+own_status (top.Words at) = status.Words
+own_status top.ReadPlant = status.ReadFault
+own_status top.WriteOut = status.WriteFault
+own_status _ = status.Refused
+
+-- the status that a command gives a fault: `check` answers No where units have no ranks, or one above the greatest
+unfoldable pub status_of : Command → TopFault → Status
+status_of Check (top.InstantLoop unit) = status.No
+status_of Check (top.TooDeep unit) = status.No
+status_of command fault = own_status fault
+
+-- a fault with that status
+abbrev pub stop_by : Command → TopFault → Stop
+stop_by command fault = record { fault = fault; status = status_of command fault }
