@@ -2,3 +2,9 @@ pub mod Keys
 pub mod Lists
 pub mod Loop
 pub mod Tree
+pub mod Yields
+pub mod ValueRanges
+pub mod ListRanges
+pub mod FeedRanges
+pub mod KindRanges
+pub mod PlantRanges

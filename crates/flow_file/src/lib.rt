@@ -5,6 +5,7 @@ mod arrays;
 mod fault;
 mod feeds;
 mod kinds;
+mod laws;
 mod plant;
 mod reader;
 mod section;
@@ -13,7 +14,5 @@ mod units;
 mod values;
 
 pub use fault::{TextFault, Unread};
+pub use laws::read_parts_are_in_range;
 pub use plant::read_plant;
-
-#[cfg(test)]
-mod tests;

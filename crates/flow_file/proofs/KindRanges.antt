@@ -1,0 +1,132 @@
+-- The ranges of what a unit of each kind says.
+use Rattle.std.proofs.Common.{◌≡◌, ℤ, pos, true, arith}
+use Rattle.std.specs.Prelude.{neg_ℤ}
+use Rattle.std.proofs.lemmas.Int.{ints}
+use Rattle.quant.specs.Interval.{Holds, wide}
+use Rattle.quant.specs.Operation.{million}
+use Rattle.parts.specs.InRange.{ppm, gains, IsWide, IsRatePoint, AreContents, AreColumnBands, IsKindPart}
+use Rattle.toml.specs.Data.{as_array}
+use Rattle.flow_file.specs.declared.fault.TextFault.TheVariants as fault
+use Rattle.flow_file.specs.declared.units.UnitKind.{UnitKind}
+use Rattle.flow_file.specs.declared.units.UnitKind.TheVariants as kind
+use Rattle.flow_file.specs.Value.{Bytes, or_fault, pair_of, Section}
+use Rattle.flow_file.specs.Units.{ppm_in, gain_in, is_rate_point, rate_point_of, contents_of, flow_and_temp_of, opening_of}
+use Rattle.flow_file.specs.Units.{tank_of, reactor_of, column_of, controller_of, mixer_of, splitter_of, part_of}
+use Rattle.flow_file.proofs.Yields.{Yields, Reads, given, anything, after, tested, required}
+use Rattle.flow_file.proofs.ValueRanges.{number, count, band, reference}
+use Rattle.flow_file.proofs.ListRanges.{list}
+
+ratio : Reads (Holds ppm) ppm_in
+ratio = number (pos 0) million
+
+gain : Reads (Holds gains) gain_in
+gain = number (neg_ℤ (pos 1000000000)) (pos 1000000000)
+
+point_is : (point : ℤ × ℤ) → is_rate_point point ≡ true → IsRatePoint point
+point_is point passed = (
+  record { above = grind (arith, ints); below = grind (arith, ints) },
+  record { above = grind (arith, ints); below = grind (arith, ints) },
+)
+
+rate_point : Reads IsRatePoint rate_point_of
+unfolding rate_point_of
+rate_point place node =
+    after (anything (or_fault (as_array node) (fault.WrongType place))) (λ array _.
+    after (anything (or_fault (pair_of array) (fault.WrongType place))) (λ point _.
+    tested _ _ _ (point_is point)))
+
+-- what a tank or a reactor holds at the first tick
+contents : (section : Section) →
+    Yields (λ held. AreContents held.volume held.flow held.conc held.temp) (contents_of section)
+unfolding contents_of
+contents section =
+    after (required band section _) (λ volume volume_is.
+    after (required band section _) (λ flow flow_is.
+    after (required band section _) (λ conc conc_is.
+    after (required band section _) (λ temp temp_is.
+    given (volume_is, flow_is, conc_is, temp_is)))))
+
+tank : (section : Section) → Yields IsKindPart (tank_of section)
+unfolding tank_of
+tank section =
+    after (required reference section _) (λ input input_is.
+    after (required reference section _) (λ valve valve_is.
+    after (required ratio section _) (λ k k_is.
+    after (contents section) (λ held held_are.
+    given (input_is, valve_is, k_is, held_are)))))
+
+reactor : (section : Section) → Yields IsKindPart (reactor_of section)
+unfolding reactor_of
+reactor section =
+    after (required reference section _) (λ input input_is.
+    after (required reference section _) (λ valve valve_is.
+    after (required reference section _) (λ jacket jacket_is.
+    after (required ratio section _) (λ k k_is.
+    after (required (list rate_point 1 64) section _) (λ rate rate_are.
+    after (required gain section _) (λ heat heat_is.
+    after (required ratio section _) (λ ua ua_is.
+    after (contents section) (λ held held_are.
+    given (input_is, valve_is, jacket_is, k_is, rate_are, heat_is, ua_is, held_are)))))))))
+
+-- what a column starts from
+flow_and_temp : (section : Section) (flow_key temp_key : Bytes) →
+    Yields (λ bands. IsWide bands.0 × IsWide bands.1) (flow_and_temp_of section flow_key temp_key)
+unfolding flow_and_temp_of
+flow_and_temp section flow_key temp_key =
+    after (required band section flow_key) (λ flow flow_is.
+    after (required band section temp_key) (λ temp temp_is.
+    given (flow_is, temp_is)))
+
+opening : (section : Section) →
+    Yields (λ held. AreColumnBands held.x held.liquid_flow held.liquid_temp held.vapour_flow held.vapour_temp) (opening_of section)
+unfolding opening_of
+opening section =
+    after (required band section _) (λ x x_is.
+    after (flow_and_temp section _ _) (λ liquid liquid_are.
+    after (flow_and_temp section _ _) (λ vapour vapour_are.
+    given (x_is, liquid_are.0, liquid_are.1, vapour_are.0, vapour_are.1))))
+
+column : (section : Section) → Yields IsKindPart (column_of section)
+unfolding column_of
+column section =
+    after (required reference section _) (λ liquid liquid_is.
+    after (required reference section _) (λ vapour vapour_is.
+    after (required (count 1 64) section _) (λ stages stages_are.
+    after (required (number (pos 1) (pos 1000000000000)) section _) (λ holdup holdup_is.
+    after (required (number (pos 0) (pos 1000000000)) section _) (λ slope slope_is.
+    after (opening section) (λ held held_are.
+    given (liquid_is, vapour_is, stages_are.0, stages_are.1, holdup_is, slope_is, held_are)))))))
+
+controller : (section : Section) → Yields IsKindPart (controller_of section)
+unfolding controller_of
+controller section =
+    after (required reference section _) (λ set set_is.
+    after (required reference section _) (λ measured measured_is.
+    after (required gain section _) (λ kp kp_is.
+    after (required gain section _) (λ ki ki_is.
+    after (required (number wide.lo wide.hi) section _) (λ bias bias_is.
+    after (required band section _) (λ limits limits_are.
+    after (required band section _) (λ integral integral_is.
+    after (required band section _) (λ out out_is.
+    given (set_is, measured_is, kp_is, ki_is, bias_is, limits_are, integral_is, out_is)))))))))
+
+mixer : (section : Section) → Yields IsKindPart (mixer_of section)
+unfolding mixer_of
+mixer section = after (required (list reference 2 8) section _) (λ input input_are. given input_are)
+
+splitter : (section : Section) → Yields IsKindPart (splitter_of section)
+unfolding splitter_of
+splitter section =
+    after (required reference section _) (λ input input_is.
+    after (required ratio section _) (λ share share_is.
+    given (input_is, share_is)))
+
+-- a unit of each kind
+pub part : (kind : UnitKind) (section : Section) → Yields IsKindPart (part_of kind section)
+unfolding part_of
+part kind.Tank section = tank section
+part kind.Reactor section = reactor section
+part kind.Column section = column section
+part kind.Controller section = controller section
+part kind.Mixer section = mixer section
+part kind.Splitter section = splitter section

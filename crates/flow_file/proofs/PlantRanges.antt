@@ -1,0 +1,136 @@
+-- The ranges of what a whole plant text says.
+use Rattle.std.proofs.Common.{◌≡◌, ℕ, pos, List, Ok, arith}
+use Rattle.std.specs.Prelude.{[]}
+use Rattle.quant.specs.Interval.{Holds}
+use Rattle.parts.specs.Parts.{FileParts}
+use Rattle.parts.specs.InRange.{widths, AreWidths, AreWideLimits, AreOwnLimits, IsUnitPart, AreFeeds, AreInRange}
+use Rattle.toml.specs.Data.{Members}
+use Rattle.flow_file.specs.declared.plant.Frame.{Frame}
+use Rattle.flow_file.specs.Value.{Section, section_of, at_key, no_others, tree_of}
+use Rattle.flow_file.specs.Units.{unit_kind_of, own_limits_of, no_limits, unit_of}
+use Rattle.flow_file.specs.Plant.{format_of, run_of, limits_of, width_in, widths_of, no_widths}
+use Rattle.flow_file.specs.Plant.{widths_at, feeds_at, frame_of, parts_of, parts_in}
+use Rattle.flow_file.proofs.Yields.{Yields, Reads, given, anything, after, required, optional, or_else}
+use Rattle.flow_file.proofs.ValueRanges.{IsBetween, number, count, band, name}
+use Rattle.flow_file.proofs.ListRanges.{list}
+use Rattle.flow_file.proofs.FeedRanges.{feeds}
+use Rattle.flow_file.proofs.KindRanges.{part}
+
+-- a unit's own limits, and the unit
+own_limits : Reads AreOwnLimits own_limits_of
+unfolding own_limits_of
+own_limits place node =
+    after (anything (section_of place node)) (λ section _.
+    after (optional band section _) (λ flow flow_is.
+    after (optional band section _) (λ conc conc_is.
+    after (optional band section _) (λ temp temp_is.
+    after (optional band section _) (λ volume volume_is.
+    after (optional band section _) (λ signal signal_is.
+    after (anything (no_others _ section)) (λ _ _.
+    given (record { flow = flow_is; conc = conc_is; temp = temp_is; volume = volume_is; signal = signal_is }))))))))
+
+no_limits_are : AreOwnLimits no_limits
+no_limits_are = record { flow = tt; conc = tt; temp = tt; volume = tt; signal = tt }
+
+unit : Reads IsUnitPart unit_of
+unfolding unit_of
+unit place node =
+    after (anything (section_of place node)) (λ section _.
+    after (required name section _) (λ name name_is.
+    after (anything (at_key unit_kind_of section _)) (λ kind _.
+    after (part kind section) (λ part part_is.
+    after (optional own_limits section _) (λ limits limits_are.
+    after (anything (no_others _ section)) (λ _ _.
+    given (record {
+      name = name_is;
+      kind = part_is;
+      limits = or_else AreOwnLimits limits no_limits limits_are no_limits_are;
+    })))))))
+
+-- what stands before the feeds and the units
+run : Reads (λ run. IsBetween 1 100000 run.0 × IsBetween 1 64 run.1) run_of
+unfolding run_of
+run place node =
+    after (anything (section_of place node)) (λ section _.
+    after (required (count 1 100000) section _) (λ ticks ticks_are.
+    after (required (count 1 64) section _) (λ window window_is.
+    after (anything (no_others _ section)) (λ _ _.
+    given (ticks_are, window_is)))))
+
+limits : Reads AreWideLimits limits_of
+unfolding limits_of
+limits place node =
+    after (anything (section_of place node)) (λ section _.
+    after (required band section _) (λ flow flow_is.
+    after (required band section _) (λ conc conc_is.
+    after (required band section _) (λ temp temp_is.
+    after (required band section _) (λ volume volume_is.
+    after (required band section _) (λ signal signal_is.
+    after (anything (no_others _ section)) (λ _ _.
+    given (record { flow = flow_is; conc = conc_is; temp = temp_is; volume = volume_is; signal = signal_is }))))))))
+
+width : Reads (Holds widths) width_in
+width = number (pos 0) (pos 2000000000000)
+
+asked_widths : Reads AreWidths widths_of
+unfolding widths_of
+asked_widths place node =
+    after (anything (section_of place node)) (λ section _.
+    after (optional width section _) (λ flow flow_is.
+    after (optional width section _) (λ conc conc_is.
+    after (optional width section _) (λ temp temp_is.
+    after (optional width section _) (λ signal signal_is.
+    after (anything (no_others _ section)) (λ _ _.
+    given (record { flow = flow_is; conc = conc_is; temp = temp_is; signal = signal_is })))))))
+
+no_widths_are : AreWidths no_widths
+no_widths_are = record { flow = tt; conc = tt; temp = tt; signal = tt }
+
+all_widths : (top : Section) → Yields AreWidths (widths_at top)
+unfolding widths_at
+all_widths top =
+    after (optional asked_widths top _) (λ found found_are.
+    given (or_else AreWidths found no_widths found_are no_widths_are))
+
+record IsFrame (frame : Frame) : Type 0 where
+  pub ticks : IsBetween 1 100000 frame.ticks
+  pub window : IsBetween 1 64 frame.window
+  pub limits : AreWideLimits frame.limits
+  pub width : AreWidths frame.width
+
+frame : (top : Section) → Yields IsFrame (frame_of top)
+unfolding frame_of
+frame top =
+    after (anything (at_key format_of top _)) (λ _ _.
+    after (required run top _) (λ run run_is.
+    after (required limits top _) (λ limits limits_are.
+    after (all_widths top) (λ width width_are.
+    given (record { ticks = run_is.0; window = run_is.1; limits = limits_are; width = width_are })))))
+
+-- the feeds, and the whole
+all_feeds : (top : Section) → Yields AreFeeds (feeds_at top)
+unfolding feeds_at
+all_feeds top =
+    after (optional feeds top _) (λ found found_are.
+    given (or_else AreFeeds found [] found_are (omega arith, tt)))
+
+parts : (table : Members) → Yields AreInRange (parts_of table)
+unfolding parts_of
+parts table =
+    let top : Section = record { prefix = []; members = table } in
+    after (frame top) (λ frame frame_is.
+    after (all_feeds top) (λ feeds feeds_are.
+    after (required (list unit 1 256) top _) (λ units units_are.
+    after (anything (no_others _ top)) (λ _ _.
+    given (record {
+      ticks = frame_is.ticks;
+      window = frame_is.window;
+      limits = frame_is.limits;
+      width = frame_is.width;
+      feeds = feeds_are;
+      units = units_are;
+    })))))
+
+pub in_range : (bytes : List ℕ) (parts : FileParts) → parts_in bytes ≡ Ok parts → AreInRange parts
+unfolding parts_in
+in_range bytes = (after (anything (tree_of bytes)) (λ table _. parts table)).value
