@@ -42,6 +42,14 @@ impl RateTable {
     {
         self.points.as_slice()
     }
+
+    /// The points, with no copy.
+    pub fn into_points(self) -> Vec<(i64, i64)>
+        ensures points { result.items ≡ self }
+        ensures table { IsTable result.items }
+    {
+        self.points
+    }
 }
 
 /// Whether a table may have these points.

@@ -110,6 +110,7 @@ fn tables_are_linear_between_points(rt: HostRuntime) -> Result<(), Fail> {
         },
     );
     assert_eq!(rt; (band.lo, band.hi), (50_000, 300_008));
+    assert!(rt; table.into_points().as_slice() == POINTS.as_slice());
     Ok(())
 }
 
@@ -228,5 +229,8 @@ fn texts_keep_their_bytes(rt: HostRuntime) -> Result<(), Fail> {
     assert!(rt; name.as_bytes() == b"tank".as_slice());
     let name = Text::new(b"feed".to_vec(rt.alloc())?);
     assert!(rt; name.as_bytes() == b"feed".as_slice());
+    assert!(rt; name.into_bytes().as_slice() == b"feed".as_slice());
+    let place = Place::new(b"unit[0]".to_vec(rt.alloc())?);
+    assert!(rt; place.into_bytes().as_slice() == b"unit[0]".as_slice());
     Ok(())
 }
