@@ -3,7 +3,7 @@ use Rattle.std.proofs.Common.{◌≡◌, ℕ, zero, suc, ap, ◌-◌, ◌+◌, �
 use Rattle.std.specs.Prelude.{Bool, ◌&&◌, int_le, int_lt}
 use Rattle.std.specs.List.{AllByRecursion}
 use Rattle.std.proofs.lemmas.Int.{ints}
-use Rattle.quant.specs.Table.{IsTable, IsPoint, IsStep, AreSteps}
+use Rattle.quant.specs.Table.{IsTable, HasRate, IsStep, AreSteps}
 use Rattle.parts.specs.Parts.{FileParts}
 use Rattle.parts.specs.InRange.{IsRatePoint, AreRatePoints, IsKindPart, IsUnitPart, AreInRange}
 use Rattle.parts.specs.declared.units.KindPart.{KindPart}
@@ -48,9 +48,9 @@ steps_of u [] e = tt
 steps_of u (p ∷ rest) e =
     steps_from u (p ∷ rest) 0 p rest (λ k. let n : 0 + k ≡ k = omega arith in rw n refl) (next_passes (rate_refused u (p ∷ rest) 0 p) _ e)
 
-points_at : (points : List (ℤ × ℤ)) (k : ℕ) (d : ℤ × ℤ) → AllByRecursion IsRatePoint points → k < length points → IsPoint (get_or points k d)
+points_at : (points : List (ℤ × ℤ)) (k : ℕ) (d : ℤ × ℤ) → AllByRecursion IsRatePoint points → k < length points → HasRate (get_or points k d)
 points_at [] k d h l = absurd (omega arith)
-points_at (p ∷ rest) zero d h l = record { temp = (h.0).0; rate = (h.0).1 }
+points_at (p ∷ rest) zero d h l = (h.0).1
 points_at (p ∷ rest) (suc k) d h l = points_at rest k d h.1 (omega arith)
 
 pub is_table : (u : ℕ) (points : List (ℤ × ℤ)) → AreRatePoints points → each (rate_refused u points) 0 points ≡ Ok tt → IsTable points

@@ -4,6 +4,7 @@ pub mod Casts
 pub mod Corners
 pub mod Division
 pub mod Hulls
+pub mod Lines
 pub mod Mixing
 pub mod Operations
 pub mod Stages

@@ -1,24 +1,16 @@
 -- Tables of rates by temperature.
 use Rattle.std.specs.Prelude.{◌≤◌, ℤ, pos, ◌≤ℤ◌, ◌<ℤ◌, List, [], ◌∷◌, length}
 use Rattle.std.specs.List.{All}
-use Rattle.quant.specs.Interval.{Interval, Holds, wide}
+use Rattle.quant.specs.Interval.{Interval, Holds}
 use Rattle.quant.specs.Operation.{million}
 
 -- the rates that a table may give: from 0 to 1,000,000 ppm
 abbrev pub rates : Interval
 rates = record { lo = pos 0; hi = million }
 
--- how far apart two points may be, from 1 to 2 10^12, and how much of that a temperature may have passed
-abbrev pub gaps : Interval
-gaps = record { lo = pos 1; hi = pos 2000000000000 }
-
-abbrev pub gaps_passed : Interval
-gaps_passed = record { lo = pos 0; hi = pos 2000000000000 }
-
--- a temperature and the rate there
-pub record IsPoint (point : ℤ × ℤ) : Type 0 where
-  pub temp : Holds wide point.0
-  pub rate : Holds rates point.1
+-- the rate of a point is one of these
+abbrev pub HasRate : ℤ × ℤ → Type 0
+HasRate point = Holds rates point.1
 
 -- the second is at a higher temperature, with no lower rate
 pub record IsStep (from to : ℤ × ℤ) : Type 0 where
@@ -31,9 +23,9 @@ AreSteps [] = Unit {0}
 AreSteps (from ∷ []) = Unit {0}
 AreSteps (from ∷ to ∷ rest) = IsStep from to × AreSteps (to ∷ rest)
 
--- 1 to 64 points in steps
+-- 1 to 64 points in steps, with rates in range
 pub record IsTable (points : List (ℤ × ℤ)) : Type 0 where
   pub some : 1 ≤ length points
   pub few : length points ≤ 64
-  pub each : All IsPoint points
+  pub each : All HasRate points
   pub steps : AreSteps points

@@ -3,6 +3,7 @@
 
 mod band;
 mod blends;
+mod ends;
 mod gains;
 mod instant;
 mod kind;
@@ -23,7 +24,10 @@ pub use blends::{blend, blend_band};
 pub use gains::{gain, gain_band};
 pub use instant::Instant;
 pub use kind::Kind;
-pub use laws::{operations_are_monotone, terms_at_points, terms_include, terms_narrow};
+pub use laws::{
+    lookup_is_linear_between_points, operations_are_monotone, terms_at_points, terms_include,
+    terms_narrow,
+};
 pub use limits::Limits;
 pub use lookups::{lookup, lookup_band};
 pub use mixes::{mix, mix_band};

@@ -1,9 +1,9 @@
-ghost use Rattle.std.specs.Prelude.{◌≡◌, ◌*ℤ◌};
+ghost use Rattle.std.specs.Prelude.{◌≡◌, ◌≤◌, ◌*◌, ◌/◌};
 ghost use Rattle.quant.specs.Interval.{Holds, IsInside};
 ghost use Rattle.quant.specs.Hull.{hull1, IsHull, IsValue1};
-ghost use Rattle.quant.specs.Rounding.{quotient, Floor};
+ghost use Rattle.quant.specs.Rounding.{Floor};
 ghost use Rattle.quant.specs.Operation.{passed, lookup};
-ghost use Rattle.quant.specs.Table.{rates, gaps, gaps_passed, IsPoint, IsStep};
+ghost use Rattle.quant.specs.Table.{rates, HasRate, IsStep};
 
 use crate::band::Band;
 use crate::rate_table::RateTable;
@@ -36,21 +36,24 @@ pub fn lookup_band(table: &RateTable, t: Band) -> Band
 
 /// How much of the rise from one point to the next `t` has passed, rounded down.
 fn passed(from: (i64, i64), to: (i64, i64), t: i64) -> i64
-    requires from { IsPoint from }
-    requires to { IsPoint to }
+    requires from { HasRate from }
+    requires to { HasRate to }
     requires step { IsStep from to }
     ensures { result ≡ passed Floor from to t }
 {
-    let gone = t.clamp(from.0, to.0) - from.0;
-    portion(to.1 - from.1, gone, to.0 - from.0)
+    let gone = t.clamp(from.0, to.0).abs_diff(from.0);
+    portion(to.1.abs_diff(from.1), gone, to.0.abs_diff(from.0)) as i64
 }
 
-/// `gone` parts in `gap` of `rise`, rounded down.
-fn portion(rise: i64, gone: i64, gap: i64) -> i64
-    requires rise { Holds rates rise }
-    requires gap { Holds gaps gap }
-    requires gone { Holds gaps_passed gone }
-    ensures { result ≡ quotient Floor (rise *ℤ gone) gap }
+/// `gone` parts in `gap` of `rise`, rounded down. It divides in 64 bits where the product has no more.
+fn portion(rise: u64, gone: u64, gap: u64) -> u64
+    requires gap { 1 ≤ gap }
+    requires gone { gone ≤ gap }
+    ensures value { result ≡ rise * gone / gap }
+    ensures size { result ≤ rise }
 {
-    (rise * gone).div_euclid(gap)
+    match rise.checked_mul(gone) {
+        Some(product) => product / gap,
+        None => (u128::from(rise) * u128::from(gone) / u128::from(gap)) as u64,
+    }
 }

@@ -1,11 +1,8 @@
-ghost use Rattle.std.specs.Prelude.{◌≡◌, ◌↔◌, IsTrue, IsSome, IfSome};
-ghost use Rattle.quant.specs.Table.{IsTable, IsPoint, IsStep};
+ghost use Rattle.std.specs.Prelude.{◌≡◌, ◌↔◌, IsTrue, IsSome, IfSome, All};
+ghost use Rattle.quant.specs.Table.{IsTable, HasRate, IsStep, AreSteps};
 
 use crate::shares::MILLION;
 use std::marker::Model;
-
-/// The greatest temperature of a table, and the size of its least, in mK.
-const FARTHEST: i64 = 1_000_000_000_000;
 
 /// Rates by temperature: points of a temperature (mK) and the rate there (ppm).
 #[derive(Debug, Drop)]
@@ -25,8 +22,8 @@ impl Model for RateTable {
 }
 
 impl RateTable {
-    /// The table of these points, or `None` exactly where they are not 1 to 64, their temperatures do not rise, a rate
-    /// falls or is not 0 to 1,000,000, or a temperature is not within -10^12 to 10^12.
+    /// The table of these points, or `None` exactly where they are not 1 to 64, their temperatures do not rise, or a rate
+    /// falls or is not 0 to 1,000,000.
     pub fn new(points: Vec<(i64, i64)>) -> Option<Self>
         ensures table { IsSome result ↔ IsTable points.items }
         ensures points { IfSome result (λ table. table ≡ points.items) }
@@ -45,32 +42,47 @@ impl RateTable {
     {
         self.points.as_slice()
     }
+
+    /// The points, with no copy.
+    pub fn into_points(self) -> Vec<(i64, i64)>
+        ensures points { result.items ≡ self }
+        ensures table { IsTable result.items }
+    {
+        self.points
+    }
 }
 
 /// Whether a table may have these points.
 fn is_table(points: &[(i64, i64)]) -> bool
     ensures { IsTrue result ↔ IsTable points.now }
 {
-    let mut from = (-FARTHEST - 1, 0);
-    for &to in points {
-        if !is_next(from, to) {
+    !points.is_empty() && points.len() <= 64 && have_rates(points) && are_steps(points)
+}
+
+/// Whether each rate is one that a table may give.
+fn have_rates(points: &[(i64, i64)]) -> bool
+    ensures { IsTrue result ↔ All HasRate points.now }
+{
+    points
+        .iter()
+        .all(|point| 0 <= point.1 && point.1 <= MILLION)
+}
+
+/// Whether each point is a step from the one before.
+fn are_steps(points: &[(i64, i64)]) -> bool
+    ensures { IsTrue result ↔ AreSteps points.now }
+{
+    for i in 1..points.len() {
+        if !is_step(points[i - 1], points[i]) {
             return false;
         }
-        from = to;
     }
-    !points.is_empty() && points.len() <= 64
+    true
 }
 
-/// Whether `to` is a point, and a step from `from`.
-fn is_next(from: (i64, i64), to: (i64, i64)) -> bool
-    ensures { IsTrue result ↔ (IsStep from to × IsPoint to) }
+/// Whether `to` is at a higher temperature than `from`, with no lower rate.
+fn is_step(from: (i64, i64), to: (i64, i64)) -> bool
+    ensures { IsTrue result ↔ IsStep from to }
 {
-    from.0 < to.0 && from.1 <= to.1 && is_point(to)
-}
-
-/// Whether a temperature and a rate are in range.
-fn is_point(point: (i64, i64)) -> bool
-    ensures { IsTrue result ↔ IsPoint point }
-{
-    -FARTHEST <= point.0 && point.0 <= FARTHEST && 0 <= point.1 && point.1 <= MILLION
+    from.0 < to.0 && from.1 <= to.1
 }

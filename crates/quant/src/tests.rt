@@ -110,20 +110,41 @@ fn tables_are_linear_between_points(rt: HostRuntime) -> Result<(), Fail> {
         },
     );
     assert_eq!(rt; (band.lo, band.hi), (50_000, 300_008));
+    assert!(rt; table.into_points().as_slice() == POINTS.as_slice());
+    Ok(())
+}
+
+/// A table over all temperatures.
+const WIDEST: [(i64, i64); 2] = [(i64::MIN, 0), (i64::MAX, MILLION)];
+
+#[test]
+fn tables_reach_over_all_temperatures(rt: HostRuntime) -> Result<(), Fail> {
+    let table = RateTable::new(WIDEST.as_slice().to_vec(rt.alloc())?).expect(
+        &rt,
+        "its points rise",
+    );
+    let rows = [
+        (i64::MIN, 0),
+        (-1, 499_999),
+        (0, 500_000),
+        (i64::MAX - 1, 999_999),
+        (i64::MAX, MILLION),
+    ];
+    for (temp, want) in rows {
+        assert_eq!(rt; lookup(&table, temp), want);
+    }
     Ok(())
 }
 
 #[test]
 fn tables_have_rising_points(rt: HostRuntime) -> Result<(), Fail> {
-    const FAR: i64 = 1_000_000_000_000;
-    let rows: [([(i64, i64); 2], bool); 8] = [
-        ([(-FAR, 0), (FAR, MILLION)], true),
+    let rows: [([(i64, i64); 2], bool); 7] = [
+        ([(i64::MIN, 0), (i64::MAX, MILLION)], true),
         ([(1, 5), (2, 5)], true),
         ([(1, 5), (1, 5)], false),
         ([(2, 5), (1, 6)], false),
         ([(1, 5), (2, 4)], false),
-        ([(-FAR - 1, 0), (0, 0)], false),
-        ([(0, 0), (FAR + 1, 0)], false),
+        ([(0, -1), (1, 0)], false),
         ([(0, 0), (1, MILLION + 1)], false),
     ];
     for (points, want) in rows {
@@ -208,5 +229,8 @@ fn texts_keep_their_bytes(rt: HostRuntime) -> Result<(), Fail> {
     assert!(rt; name.as_bytes() == b"tank".as_slice());
     let name = Text::new(b"feed".to_vec(rt.alloc())?);
     assert!(rt; name.as_bytes() == b"feed".as_slice());
+    assert!(rt; name.into_bytes().as_slice() == b"feed".as_slice());
+    let place = Place::new(b"unit[0]".to_vec(rt.alloc())?);
+    assert!(rt; place.into_bytes().as_slice() == b"unit[0]".as_slice());
     Ok(())
 }

@@ -39,4 +39,11 @@ impl Text {
     {
         self.bytes.as_slice()
     }
+
+    /// The bytes, with no copy.
+    pub fn into_bytes(self) -> Vec<u8>
+        ensures { result.items ≡ self }
+    {
+        self.bytes
+    }
 }

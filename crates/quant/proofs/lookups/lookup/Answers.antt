@@ -5,7 +5,7 @@ use Rattle.std.specs.Int.{w64}
 use Rattle.quant.specs.Interval.{Holds}
 use Rattle.quant.specs.Rounding.{Floor}
 use Rattle.quant.specs.Operation.{lookup, passed}
-use Rattle.quant.specs.Table.{IsPoint, rates}
+use Rattle.quant.specs.Table.{HasRate, rates}
 use Rattle.quant.proofs.Tables.{IsUnderWay, passed-between, under-way-start, under-way-more, under-way-points, under-way-end}
 use Rattle.quant.proofs.lookups.lookup.Goals.{After-passed-rate, After-loop-i}
 use Rattle.quant.proofs.lookups.lookup.Goals as goal
@@ -14,8 +14,7 @@ pub loop-i-init : goal.loop-i-init
 loop-i-init c =
     let points = c.as_slice-points.result.now in
     let h = c.as_slice-points.ensures.table in
-    let p = All-get_or IsPoint points 0 (pos 0, pos 0) (omega (arith, h.some)) h.each in
-    let r = p.rate in
+    let p = All-get_or HasRate points 0 (pos 0, pos 0) (omega (arith, h.some)) h.each in
     under-way-start points (pos 0, pos 0) _ _ h (omega (arith, ints))
 
 pub overflow_add-rate : goal.overflow_add-rate
@@ -24,8 +23,8 @@ overflow_add-rate c =
     let w = c.loop-i.invariant in
     let u = under-way-points points c.loop-i.i (pos 0, pos 0) _ _ c.loop-i.auto.i c.loop-i-test.true w in
     let b = passed-between Floor (get_or points (c.loop-i.i - 1) (pos 0, pos 0)) (get_or points c.loop-i.i (pos 0, pos 0)) (to_z w64 (of_z w64 c.args.t)) u.2 in
-    let f = u.0.rate in
-    let g = u.1.rate in
+    let f = u.0 in
+    let g = u.1 in
     omega (arith, ints, c.passed-rate.ensures, u.3, w.above)
 
 pub loop-i-preserved : goal.loop-i-preserved
@@ -34,8 +33,8 @@ loop-i-preserved c =
     let w = c.loop-i.invariant in
     let u = under-way-points points c.loop-i.i (pos 0, pos 0) _ _ c.loop-i.auto.i c.loop-i-test.true w in
     let b = passed-between Floor (get_or points (c.loop-i.i - 1) (pos 0, pos 0)) (get_or points c.loop-i.i (pos 0, pos 0)) (to_z w64 (of_z w64 c.args.t)) u.2 in
-    let f = u.0.rate in
-    let g = u.1.rate in
+    let f = u.0 in
+    let g = u.1 in
     let e : to_z w64 (of_z w64 (to_z w64 c.loop-i.rate-bits +ℤ to_z w64 (of_z w64 c.passed-rate.result)))
     ≡ to_z w64 c.loop-i.rate-bits +ℤ passed Floor (get_or points (c.loop-i.i - 1) (pos 0, pos 0)) (get_or points c.loop-i.i (pos 0, pos 0)) (to_z w64 (of_z w64 c.args.t)) =
     omega (arith, ints, c.passed-rate.ensures, u.3, w.above) in
