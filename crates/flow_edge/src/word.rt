@@ -27,4 +27,11 @@ impl Word {
     {
         self.bytes.as_slice()
     }
+
+    /// Gives the vector of bytes back.
+    pub fn into_bytes(self) -> Vec<u8>
+        ensures { result.items ≡ self }
+    {
+        self.bytes
+    }
 }

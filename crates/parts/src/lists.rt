@@ -34,6 +34,13 @@ impl Pieces {
     {
         self.items.as_slice()
     }
+
+    /// Gives the vector back.
+    pub fn into_vec(self) -> Vec<Piece>
+        ensures { result.items ≡ self }
+    {
+        self.items
+    }
 }
 
 /// The points of a rate table: a temperature in mK, and the ppm that react in a tick.
@@ -64,6 +71,13 @@ impl RatePoints {
     {
         self.items.as_slice()
     }
+
+    /// Gives the vector back.
+    pub fn into_vec(self) -> Vec<(i64, i64)>
+        ensures { result.items ≡ self }
+    {
+        self.items
+    }
 }
 
 /// References.
@@ -93,6 +107,13 @@ impl Texts {
         ensures { result.now ≡ self.now }
     {
         self.items.as_slice()
+    }
+
+    /// Gives the vector back.
+    pub fn into_vec(self) -> Vec<Text>
+        ensures { result.items ≡ self }
+    {
+        self.items
     }
 }
 
@@ -125,6 +146,13 @@ impl FeedParts {
     {
         self.items.as_slice()
     }
+
+    /// Gives the vector back.
+    pub fn into_vec(self) -> Vec<FeedPart>
+        ensures { result.items ≡ self }
+    {
+        self.items
+    }
 }
 
 /// The units of a plant.
@@ -155,5 +183,12 @@ impl UnitParts {
         ensures { result.now ≡ self.now }
     {
         self.items.as_slice()
+    }
+
+    /// Gives the vector back.
+    pub fn into_vec(self) -> Vec<UnitPart>
+        ensures { result.items ≡ self }
+    {
+        self.items
     }
 }

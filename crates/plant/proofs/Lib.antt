@@ -25,3 +25,5 @@ pub mod AllKinds
 pub mod Givens
 pub mod Products
 pub mod RateTables
+pub mod Judgements
+pub mod SetBands

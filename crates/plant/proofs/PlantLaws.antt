@@ -22,6 +22,7 @@ use Rattle.plant.proofs.Feeds.{given-inside}
 use Rattle.plant.proofs.Sheets.{all-bands, all-limited, all-ranked}
 use Rattle.plant.proofs.Ticks.{next-streams, next-states}
 use Rattle.plant.proofs.Verdicts.{one-verdict}
+use Rattle.plant.proofs.Judgements.{some-verdict}
 
 pub parts-sound : (parts : FileParts) → AreInRange parts → checked parts ≡ Ok tt → ArePartsSound parts
 parts-sound parts ranges passes =
@@ -41,6 +42,9 @@ parts-sound parts ranges passes =
 
 pub verdict-unique : (parts : FileParts) (one other : Checked) → IsVerdict parts one → IsVerdict parts other → one ≡ other
 verdict-unique = one-verdict
+
+pub verdict-exists : (parts : FileParts) → (verdict : Checked) × IsVerdict parts verdict
+verdict-exists = some-verdict
 
 -- the parts of a plant are sound
 pub plant-sound : (parts : FileParts) → IsPlant parts → ArePartsSound parts

@@ -1,6 +1,6 @@
 -- A row: the bands of a plant at one tick.
-use Rattle.std.specs.Prelude.{◌≡◌, ℕ, ◌<◌, List, [], length, map, slice_index_or, slice_set}
-use Rattle.quant.specs.Interval.{Interval, AllInside}
+use Rattle.std.specs.Prelude.{◌≡◌, ℕ, ◌<◌, pos, List, [], length, map, slice_index_or, slice_set}
+use Rattle.quant.specs.Interval.{Interval, AllInside, point}
 use Rattle.flowsheet.specs.Plant.{unit_at}
 use Rattle.flowsheet.specs.Reading.{on_bands, inputs_of, stepped}
 use Rattle.flowsheet.specs.Run.{streams_at, run_states, run_streams}
@@ -27,6 +27,10 @@ set_band row s c band = record { states = row.states; streams = slice_set row.st
 -- the limits of each stream's channels
 abbrev pub all_limits : FileParts → List (List Interval)
 all_limits parts = map (stream_limits parts) (streams_of parts)
+
+-- the limit of a channel of a stream
+abbrev pub limit_at : FileParts → ℕ → ℕ → Interval
+limit_at parts s c = slice_index_or (slice_index_or (all_limits parts) s []) c (point (pos 0))
 
 -- A row of the plant: a band for each state and each channel. The states and the feeds are inside their limits.
 pub record IsRow (parts : FileParts) (row : RowBands) : Type 0 where

@@ -21,6 +21,11 @@ pub fn verdicts_are_unique()
     ensures { (parts : FileParts) (one other : Checked) → IsVerdict parts one → IsVerdict parts other → one ≡ other }
 {}
 
+/// There is one verdict on parts at least.
+pub fn verdicts_exist()
+    ensures { (parts : FileParts) → (verdict : Checked) × IsVerdict parts verdict }
+{}
+
 /// The parts of a built plant are a plant of the definitions: its ranks are right, its units keep their limits, its
 /// bands have numbers in them, and its feeds are inside their limits.
 pub fn built_plants_are_plants()

@@ -16,7 +16,7 @@ mod units;
 pub use fault::{PlantFault, Unbuilt};
 pub use laws::{
     built_plants_are_plants, checked_parts_are_sound, direct_steps_make_the_run,
-    verdicts_are_unique,
+    verdicts_are_unique, verdicts_exist,
 };
 pub use plant::Plant;
 pub use rows::Row;

@@ -2,7 +2,7 @@ ghost use Rattle.std.specs.Prelude.{◌≡◌, ◌<◌, [], length, slice_index_
 ghost use Rattle.quant.specs.Interval.{point};
 ghost use Rattle.plant.specs.Streams.{streams_of};
 ghost use Rattle.plant.specs.Units.{limits_in, channel_limits, source_limits};
-ghost use Rattle.plant.specs.Rows.{all_limits};
+ghost use Rattle.plant.specs.Rows.{all_limits, limit_at};
 
 use crate::plant::Plant;
 use crate::streams::StreamSource;
@@ -54,7 +54,7 @@ impl Plant {
     pub fn limit(&self, stream: u32, channel: u32) -> Band
         requires stream { stream < length (streams_of self.now) }
         requires channel { channel < length (slice_index_or (all_limits self.now) stream []) }
-        ensures { result ≡ slice_index_or (slice_index_or (all_limits self.now) stream []) channel (point (pos 0)) }
+        ensures { result ≡ limit_at self.now stream channel }
     {
         let stream = &self.streams()[stream as usize];
         channel_limit(

@@ -1,6 +1,7 @@
 ghost use Rattle.std.specs.Prelude.{◌≡◌, ◌<◌, length, slice_index_or, IfOk, pos};
-ghost use Rattle.quant.specs.Interval.{point};
-ghost use Rattle.plant.specs.Rows.{stream_in, set_band, opening_row, IsRow, IsStep, HasFeedsOf};
+ghost use Rattle.quant.specs.Interval.{IsInside, point};
+ghost use Rattle.parts.specs.Parts.{FileParts};
+ghost use Rattle.plant.specs.Rows.{stream_in, set_band, limit_at, opening_row, IsRow, IsStep, HasFeedsOf};
 
 use crate::plant::Plant;
 use crate::units::Bands;
@@ -24,11 +25,13 @@ impl Model for Row {
 }
 
 impl Row {
-    /// Sets the band of a channel of a feed's stream.
+    /// Sets the band of a channel of a stream. A plant's row stays one where the band is inside the channel's limit.
     pub fn set(&mut self, stream: u32, channel: u32, band: Band)
         requires stream { stream < length self.old.streams }
         requires channel { channel < length (stream_in self.old stream) }
-        ensures { self.new ≡ set_band self.old stream channel band }
+        ensures set { self.new ≡ set_band self.old stream channel band }
+        ensures row { (parts : FileParts) → IsRow parts self.old → IsInside band (limit_at parts stream channel) →
+            IsRow parts self.new }
     {
         self.streams[stream as usize].set(channel as usize, band);
     }

@@ -33,6 +33,13 @@ impl StreamNumbers {
     {
         self.items.as_slice()
     }
+
+    /// Gives the vector back.
+    pub fn into_vec(self) -> Vec<u32>
+        ensures { result.items ≡ self }
+    {
+        self.items
+    }
 }
 
 /// Bands, one for each state of a unit or each channel of a stream.
@@ -70,6 +77,13 @@ impl Bands {
         ensures { result.now ≡ self.now }
     {
         self.items.as_slice()
+    }
+
+    /// Gives the vector back.
+    pub fn into_vec(self) -> Vec<Band>
+        ensures { result.items ≡ self }
+    {
+        self.items
     }
 
     /// Puts another band in one place.

@@ -4,3 +4,5 @@ pub mod Maxima
 pub mod Ascents
 pub mod Searches
 pub mod Found
+pub mod Choices
+pub mod Ways

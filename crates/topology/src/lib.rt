@@ -7,7 +7,7 @@ mod ranking;
 mod reach;
 mod rise;
 
-pub use laws::{ranks_are_found, ranks_are_unique};
+pub use laws::{ranks_are_found, ranks_are_unique, ranks_or_first_loop};
 pub use links::Links;
 pub use ranking::{RankFault, ranks};
 

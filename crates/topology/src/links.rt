@@ -27,6 +27,14 @@ impl Links {
         Links { instant, reads }
     }
 
+    /// Gives back which units are instant, and what each reads.
+    pub fn into_parts(self) -> (Vec<bool>, Vec<Vec<u32>>)
+        ensures instant { result.0.items ≡ self.instant }
+        ensures reads { map (λ r. r.items) result.1.items ≡ self.reads }
+    {
+        (self.instant, self.reads)
+    }
+
     /// How many units there are.
     pub fn units(&self) -> usize
         ensures { result ≡ length self.now.instant }
