@@ -20,7 +20,7 @@ use Rattle.flow_top.specs.declared.fault.TopFault.{TopFault}
 use Rattle.flow_top.specs.declared.fault.TopFault.TheVariants as top
 use Rattle.flow_top.specs.Words.{command_in}
 use Rattle.flow_top.specs.Faults.{fault_of_text, fault_of_plant, own_status, status_of, stop_by}
-use Rattle.flow_top.specs.Judged.{IsJudged, too_long, unread, unbuilt, built}
+use Rattle.flow_top.specs.Judged.{Judgement, IsJudged, too_long, unread, unbuilt, built}
 use Rattle.flow_top.specs.Course.{Course, written, text_of}
 use Rattle.flow_top.specs.Courses.{IsWork}
 use Rattle.flow_top.specs.Lines.{fault_line, constant_line, memory_line}
@@ -30,7 +30,7 @@ use Rattle.flow_top.specs.Ended as ended
 use Rattle.flow_top.specs.Stands.{Said, SaidLine, SaidMemory, SaidStop}
 use Rattle.flow_top.specs.Causes.{IsEndOn, refusal, course, WroteSome, WroteAll, Cause, AnswersOr}
 use Rattle.flow_top.proofs.Judging.{judgement-unique}
-use Rattle.flow_top.proofs.Courses.{courses-agree, course-stops}
+use Rattle.flow_top.proofs.Courses.{courses-agree, course-stops, work-exists}
 use Rattle.flow_top.proofs.Writes.{nothing-more}
 
 -- the refusals of a text are refusals
@@ -356,3 +356,10 @@ module _ (words : List (List ℕ)) (plant : SourceUse) (out err : SinkUse) (resu
   complete command bytes ending (misread at w r o e) said a t ends p q r' = absurd (cc (a, w))
   complete command bytes ending (asked k b e) said a t ends p q r =
       at_whole command bytes t ending (this_command command k ending a b e) said ends p q r
+
+-- a command has an end on a text that is judged
+pub end-exists : (command : Command) (bytes : List ℕ) (judgement : Judgement) → IsJudged bytes judgement →
+    (end : Option Stop) × IsEndOn command bytes end
+end-exists command bytes (Err fault) j = (Some (stop_by command fault), refusal fault j refl)
+end-exists command bytes (Ok parts) j =
+    let work = work-exists command parts (judged-plant bytes parts j) in (work.0.stop, course parts work.0 j work.1 refl)

@@ -114,3 +114,13 @@ pub course-stops : (command : Command) (parts : FileParts) (course : Course) (st
     course.stop ≡ Some stop → WritesNothing course stop
 course-stops Run parts course stop r e = run-stops (not_built parts) parts course stop r e
 course-stops Check parts course stop r e = absurd (cc (r.stop, e))
+
+-- each command has a course on a plant
+run-exists : (parts : FileParts) → IsPlant parts → (place : Option (List ℕ)) → not_built parts ≡ place →
+    (course : Course) × IsWork Run parts course
+run-exists parts plant None e = (run_course parts, run-work parts plant e)
+run-exists parts plant (Some place) e = (stopped_course place, stopped-work parts place plant e)
+
+pub work-exists : (command : Command) (parts : FileParts) → IsPlant parts → (course : Course) × IsWork command parts course
+work-exists Run parts plant = run-exists parts plant (not_built parts) refl
+work-exists Check parts plant = (check_course parts, check-work parts plant)

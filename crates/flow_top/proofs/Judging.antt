@@ -1,6 +1,9 @@
 -- A text has one judgement at most, and what is found of it, step by step, is its judgement.
 use Rattle.std.proofs.Common.{◌≡◌, ◌<◌, ◌≤◌, ℕ, List, length, Result, Ok, Err, refl, sym, ap, subst, ◌∙◌, arith}
+use Rattle.std.proofs.Common.{inl, inr}
+use Rattle.std.proofs.lemmas.Bool.{cases_lt}
 use Rattle.parts.specs.Parts.{FileParts}
+use Rattle.parts.specs.InRange.{AreInRange}
 use Rattle.plant.specs.Building.{Checked}
 use Rattle.plant.specs.Sound.{IsPlant}
 use Rattle.plant.specs.Verdict.{IsVerdict}
@@ -85,3 +88,25 @@ unbuilt-judged text parts fault short read verdict = unbuilt parts fault short r
 pub built-judged : (text : List ℕ) (parts : FileParts) → length text ≤ most_bytes → parts_in text ≡ Ok parts → IsPlant parts →
     IsJudged text (Ok parts)
 built-judged text parts short read plant = built parts short read plant refl
+
+module _ (verdicts : (parts : FileParts) → (verdict : Checked) × IsVerdict parts verdict)
+    (ranges : (bytes : List ℕ) (parts : FileParts) → parts_in bytes ≡ Ok parts → AreInRange parts) where
+  -- the judgement of parts that were read, by their verdict
+  of_parts : (text : List ℕ) (parts : FileParts) → length text ≤ most_bytes → parts_in text ≡ Ok parts →
+      (verdict : Checked) → IsVerdict parts verdict → (judgement : Judgement) × IsJudged text judgement
+  of_parts text parts short read (Err fault) is = (Err (fault_of_plant fault), unbuilt parts fault short read is refl)
+  of_parts text parts short read (Ok tt) is =
+      let plant : IsPlant parts = record { ranges = ranges text parts read; passes = is.0; ranked = is.1; shallow = is.2 } in
+      (Ok parts, built parts short read plant refl)
+
+  of_reading : (text : List ℕ) → length text ≤ most_bytes → (reading : Result FileParts TextFault) → parts_in text ≡ reading →
+      (judgement : Judgement) × IsJudged text judgement
+  of_reading text short (Err fault) read = (Err (fault_of_text fault), unread fault short read refl)
+  of_reading text short (Ok parts) read = of_parts text parts short read (verdicts parts).0 (verdicts parts).1
+
+  -- each text has a judgement
+  pub judgement-exists : (text : List ℕ) → (judgement : Judgement) × IsJudged text judgement
+  judgement-exists text = elim (cases_lt most_bytes (length text)) [
+    | inl long ↦ (Err top.TooLong, too_long long refl)
+    | inr short ↦ of_reading text short (parts_in text) refl
+  ]

@@ -21,3 +21,13 @@ pub returns-clause-holds : goal.returns-clause-holds
 returns-clause-holds c words text left had has done x y trajectory tick s t l =
     c.trajectories_lie_in_the_run.ensures.streams _ _ _ _ x y
     (c.built_plants_are_plants.ensures.ranked done.parts done.work.plant) trajectory tick s t (in-plant done.parts s l)
+
+pub returns-clause-values : goal.returns-clause-values
+returns-clause-values c words text left had has done x y single trajectory tick s t l =
+    c.points_run_alone.ensures.values _ _ _ _ x y
+    (c.built_plants_are_plants.ensures.ranked done.parts done.work.plant) single trajectory tick s t (in-plant done.parts s l)
+
+pub returns-clause-exists : goal.returns-clause-exists
+returns-clause-exists c words text left had has done =
+    c.trajectories_exist.ensures.bands _ _ _ done.parts.ticks (c.built_plants_are_plants.ensures.ranked done.parts done.work.plant)
+    (c.built_plants_are_plants.ensures.bands done.parts done.parts.ticks done.work.plant)

@@ -1,5 +1,5 @@
-use Rattle.flow_top.proofs.Judging.{judgement-unique}
-use Rattle.flow_top.proofs.Causes.{end-unique}
+use Rattle.flow_top.proofs.Judging.{judgement-unique, judgement-exists}
+use Rattle.flow_top.proofs.Causes.{end-unique, end-exists}
 use Rattle.flow_top.proofs.laws.texts_are_judged_once.Goals as goal
 
 pub returns-clause-judged_once : goal.returns-clause-judged_once
@@ -7,3 +7,11 @@ returns-clause-judged_once c = judgement-unique
 
 pub returns-clause-ends_once : goal.returns-clause-ends_once
 returns-clause-ends_once c = end-unique
+
+pub returns-clause-judged : goal.returns-clause-judged
+returns-clause-judged c = judgement-exists c.verdicts_exist.ensures c.read_parts_are_in_range.ensures
+
+pub returns-clause-ends : goal.returns-clause-ends
+returns-clause-ends c command text =
+    let judged = judgement-exists c.verdicts_exist.ensures c.read_parts_are_in_range.ensures text in
+    end-exists command text judged.0 judged.1
