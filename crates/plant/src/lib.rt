@@ -22,6 +22,3 @@ pub use plant::Plant;
 pub use rows::Row;
 pub use streams::{Stream, StreamSource};
 pub use units::{Bands, StreamNumbers, Unit};
-
-#[cfg(test)]
-mod build_tests;

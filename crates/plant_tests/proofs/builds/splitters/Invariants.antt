@@ -1,7 +1,7 @@
 use Rattle.std.proofs.Common.{◌≡◌, length}
 use Rattle.std.specs.List.{AllByRecursion}
 use Rattle.parts.specs.InRange.{IsUnitPart}
-use Rattle.plant.proofs.build_tests.splitters.Given as goal
+use Rattle.plant_tests.proofs.builds.splitters.Given as goal
 
 -- the units so far
 abbrev pub invariant-loop-number : goal.invariant-loop-number
