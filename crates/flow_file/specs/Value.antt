@@ -4,7 +4,7 @@ use Rattle.std.specs.Prelude.{List, [], ◌∷◌, bytes_eq, codes, decimal, Opt
 use Rattle.std.specs.List.{list_any}
 use Rattle.std.specs.Str.{is_utf8}
 use Rattle.quant.specs.Interval.{Interval, wide}
-use Rattle.parts.specs.Name.{is_name, is_reference}
+use Rattle.plant_names.specs.Name.{is_name, is_reference}
 use Rattle.toml.specs.Data.{Data, Items, no_items, item, Members, no_members, member, get_member}
 use Rattle.toml.specs.Data.{as_integer, as_str, as_array, as_table}
 use Rattle.toml.specs.Parse.{parse_document}

@@ -1,7 +1,7 @@
 ghost use Rattle.std.specs.Prelude.{◌≡◌};
 ghost use Rattle.flow_file.specs.declared.fault.Unread.TheVariants.{NoMemory};
 
-use quant::Place;
+use plant_names::Place;
 use std::alloc::{AllocError, AllocFailed};
 
 /// Why a plant text is refused: the first thing in it that does not fit.

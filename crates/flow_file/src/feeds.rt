@@ -17,7 +17,7 @@ use crate::section::{Section, section_at};
 use crate::spot::Spot;
 use crate::values::{Name, WideBand, band_between, text_at};
 use parts::{FeedBand, FeedKind, FeedPart, Piece, Pieces};
-use quant::Text;
+use plant_names::Text;
 use std::alloc::Global;
 use toml::Value;
 

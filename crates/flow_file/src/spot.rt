@@ -4,7 +4,7 @@ ghost use Rattle.flow_file.specs.declared.fault.Unread.TheVariants as unread;
 ghost use Rattle.flow_file.specs.Spots.{place_of};
 
 use crate::fault::{TextFault, Unread};
-use quant::Place;
+use plant_names::Place;
 use std::alloc::{AllocError, Global};
 
 /// Where a value stands in a plant text.

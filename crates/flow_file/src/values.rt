@@ -11,8 +11,8 @@ ghost use Rattle.flow_file.specs.Spots.{place_of};
 use crate::fault::Unread;
 use crate::reader::Reader;
 use crate::spot::Spot;
-use parts::{is_name, is_reference};
-use quant::{Band, Text};
+use plant_names::{Text, is_name, is_reference};
+use quant::Band;
 use std::alloc::Global;
 use toml::Value;
 

@@ -185,30 +185,36 @@ module _ (words : List (List ℕ)) (plant : SourceUse) (out err : SinkUse) (resu
       SaysParts plant parts → IsWork command parts c → Stood c c.windows out → c.stop ≡ end →
       Said (course_end end) err result → Cause result words plant out err
   by_course None command parts c a says work stood e said =
-      subst (λ r. Cause r words plant out err) (sym said.1) (record {
-        command = command;
-        parts = parts;
-        course = c;
-        asked = a;
-        says = says.text;
-        read = says.whole;
-        work = work;
-        whole = e;
-        output = stood.output;
-      }, said.0.text)
+      subst (λ r. Cause r words plant out err) (sym said.1) (
+        record {
+          command = command;
+          parts = parts;
+          course = c;
+          asked = a;
+          says = says.text;
+          read = says.whole;
+          work = work;
+          whole = e;
+          output = stood.output;
+        },
+        said.0.text,
+      )
   by_course (Some stop) command parts c a says work stood e said =
       let stops = course-stops command parts c stop work.course e in
       let silent = nothing-more out.had out.has
       (subst (λ text. Gives out.had out.has text) stops.text stood.output) in
-      by_stop stop said (λ g. subst (λ s. Cause s words plant out err) (sym stops.refused) (record {
-        command = command;
-        stop = stop;
-        asked = a;
-        ends = each_text plant.text (λ bytes. IsJudged bytes (Ok parts)) (λ bytes. IsEndOn command bytes (Some stop))
-            (λ bytes j. course parts c j work (sym e)) says.text;
-        status = stops.refused;
-        line = g;
-      }, silent)) (λ none. inl silent)
+      by_stop stop said (λ g. subst (λ s. Cause s words plant out err) (sym stops.refused) (
+        record {
+          command = command;
+          stop = stop;
+          asked = a;
+          ends = each_text plant.text (λ bytes. IsJudged bytes (Ok parts)) (λ bytes. IsEndOn command bytes (Some stop))
+              (λ bytes j. course parts c j work (sym e)) says.text;
+          status = stops.refused;
+          line = g;
+        },
+        silent,
+      )) (λ none. inl silent)
 
   -- the cause where the plant is refused
   by_refusal : (command : Command) (fault : TopFault) → command_in words ≡ Ok command → IsRefused plant fault →
@@ -217,12 +223,28 @@ module _ (words : List (List ℕ)) (plant : SourceUse) (out err : SinkUse) (resu
       let ends = each_text plant.text (λ bytes. IsJudged bytes (Err fault))
       (λ bytes. IsEndOn command bytes (Some (stop_by command fault))) (λ bytes j. refusal fault j refl) r.text in
       by_stop (stop_by command fault) said (λ g. elim (refusal_status command fault r.refusal) [
-        | inl s ↦ subst (λ t. Cause t words plant out err) (sym s) (record {
-              command = command; stop = stop_by command fault; asked = a; ends = ends; status = s; line = g;
-            }, o.text)
-        | inr s ↦ subst (λ t. Cause t words plant out err) (sym s) (record {
-              command = command; stop = stop_by command fault; asked = a; ends = ends; status = s; line = g;
-            }, o.text)
+        | inl s ↦ subst (λ t. Cause t words plant out err) (sym s) (
+          record {
+            command = command;
+            stop = stop_by command fault;
+            asked = a;
+            ends = ends;
+            status = s;
+            line = g;
+          },
+          o.text,
+        )
+        | inr s ↦ subst (λ t. Cause t words plant out err) (sym s) (
+          record {
+            command = command;
+            stop = stop_by command fault;
+            asked = a;
+            ends = ends;
+            status = s;
+            line = g;
+          },
+          o.text,
+        )
       ]) (λ none. inl o.text)
 
   -- the cause at each end of the work on a plant

@@ -5,7 +5,7 @@ ghost use Rattle.flow_top.specs.Faults.{fault_of_text, fault_of_plant};
 use flow_edge::Status;
 use flow_file::TextFault;
 use plant::PlantFault;
-use quant::{Place, Text};
+use plant_names::{Place, Text};
 use std::alloc::AllocError;
 
 /// What goes wrong, one for each error line but that of want of memory.

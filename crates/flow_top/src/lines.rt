@@ -6,7 +6,7 @@ ghost use Rattle.flow_top.specs.Lines.{fault_words, line_of, fault_line, constan
 ghost use Rattle.flow_top.specs.declared.fault.TopFault.TheVariants.{Words, Format};
 
 use crate::fault::TopFault;
-use quant::{Place, Text};
+use plant_names::{Place, Text};
 use std::alloc::{AllocError, Global};
 
 /// The line of want of memory, which takes none.

@@ -16,11 +16,7 @@ use std::alloc::Global;
 const MOST_BYTES: u64 = 1_048_576;
 
 /// The plant that the source's text says, or why the command stops without one.
-pub fn plant_from<S: Source>(
-    alloc: Global,
-    command: Command,
-    source: &mut S,
-) -> Result<Plant, End>
+pub fn plant_from<S: Source>(alloc: Global, command: Command, source: &mut S) -> Result<Plant, End>
     ensures { PlantEnded command result
         (record { text = S.left source.old; left = S.left source.new; before = S.faults source.old; now = S.faults source.new }) }
 {

@@ -19,7 +19,7 @@ use crate::words::Command;
 use flow_edge::Sink;
 use parts::{Parts, Widths};
 use plant::{Plant, Row, direct_steps_make_the_run};
-use quant::Place;
+use plant_names::Place;
 use report::{Rows, output_header};
 use std::alloc::{AllocError, Global};
 

@@ -95,11 +95,11 @@ where
     // What stands after the call, for every status and every device.
     ensures stands { Stands words.now
         (record {
-            plant = record { text = S.left plant.old; left = S.left plant.new; before = S.faults plant.old; now = S.faults plant.new };
-            extra = record { text = E.left extra.old; left = E.left extra.new; before = E.faults extra.old; now = E.faults extra.new };
-            out = record { had = O.given out.old; has = O.given out.new; before = O.faults out.old; now = O.faults out.new };
-            trace = record { had = T.given trace.old; has = T.given trace.new; before = T.faults trace.old; now = T.faults trace.new };
-            err = record { had = F.given err.old; has = F.given err.new; before = F.faults err.old; now = F.faults err.new };
+          plant = record { text = S.left plant.old; left = S.left plant.new; before = S.faults plant.old; now = S.faults plant.new };
+          extra = record { text = E.left extra.old; left = E.left extra.new; before = E.faults extra.old; now = E.faults extra.new };
+          out = record { had = O.given out.old; has = O.given out.new; before = O.faults out.old; now = O.faults out.new };
+          trace = record { had = T.given trace.old; has = T.given trace.new; before = T.faults trace.old; now = T.faults trace.new };
+          err = record { had = F.given err.old; has = F.given err.new; before = F.faults err.old; now = F.faults err.new };
         })
         result }
 {

@@ -15,7 +15,7 @@ use Rattle.parts.specs.declared.units.KindPart.TheVariants as kind
 use Rattle.parts.specs.declared.units.OwnLimits.{OwnLimits}
 use Rattle.parts.specs.declared.units.UnitPart.{UnitPart}
 use Rattle.parts.specs.declared.parts.Widths.{Widths}
-use Rattle.parts.specs.Name.{is_name, is_reference}
+use Rattle.plant_names.specs.Name.{is_name, is_reference}
 use Rattle.parts.specs.Parts.{FileParts}
 
 -- the whole numbers from lo to hi, both not negative; and the numbers from 0 to one million

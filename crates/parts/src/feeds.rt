@@ -3,7 +3,8 @@ ghost use Rattle.quant.specs.Interval.{point};
 ghost use Rattle.parts.specs.Given.{latest, band_at};
 
 use crate::lists::Pieces;
-use quant::{Band, Text};
+use plant_names::Text;
+use quant::Band;
 
 /// A feed's band from a tick on, up to the next piece.
 #[derive(Clone, Copy, Debug, PartialEq, Eq)]

@@ -3,12 +3,10 @@
 
 mod feeds;
 mod lists;
-mod names;
 mod parts;
 mod units;
 
 pub use feeds::{FeedBand, FeedKind, FeedPart, Piece};
 pub use lists::{FeedParts, Pieces, RatePoints, Texts, UnitParts};
-pub use names::{is_name, is_reference};
 pub use parts::{Parts, Widths};
 pub use units::{KindPart, OwnLimits, UnitPart};

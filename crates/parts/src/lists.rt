@@ -2,7 +2,7 @@
 
 use crate::feeds::{FeedPart, Piece};
 use crate::units::UnitPart;
-use quant::Text;
+use plant_names::Text;
 use std::marker::Model;
 
 /// The pieces of a feed's band.

@@ -1,5 +1,6 @@
 use crate::lists::{RatePoints, Texts};
-use quant::{Band, Text};
+use plant_names::Text;
+use quant::Band;
 
 /// The limits of a unit that are its own, in place of the plant's.
 #[derive(Clone, Copy, Debug)]

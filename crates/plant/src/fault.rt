@@ -1,7 +1,7 @@
 ghost use Rattle.std.specs.Prelude.{◌≡◌};
 ghost use Rattle.plant.specs.declared.fault.Unbuilt.TheVariants.{NoMemory};
 
-use quant::{Place, Text};
+use plant_names::{Place, Text};
 use std::alloc::AllocError;
 
 /// Why parts are no plant: the first check that they do not pass.

@@ -1,4 +1,4 @@
-use quant::Text;
+use plant_names::Text;
 
 /// Where a stream comes from: a feed, or the output port of a unit, by their numbers from 0.
 #[derive(Clone, Copy, Debug, PartialEq, Eq)]

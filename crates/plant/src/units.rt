@@ -1,7 +1,8 @@
 use basic_units::{Mixer, Reactor, Splitter, Tank};
 use column_section::Column;
 use controllers::Controller;
-use quant::{Band, Text};
+use plant_names::Text;
+use quant::Band;
 use std::alloc::{AllocError, Global};
 use std::marker::Model;
 

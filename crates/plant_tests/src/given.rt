@@ -8,7 +8,8 @@ use parts::{
     UnitPart, UnitParts, Widths, is_name, is_reference,
 };
 use plant::{Plant, Unbuilt};
-use quant::{Band, Limits, Text};
+use plant_names::Text;
+use quant::{Band, Limits};
 use std::alloc::Global;
 use std::test::Fail;
 

@@ -11,12 +11,10 @@ mod laws;
 mod limits;
 mod lookups;
 mod mixes;
-mod place;
 mod quotients;
 mod rate_table;
 mod shares;
 mod sums;
-mod text;
 mod trays;
 
 pub use band::{Band, clamp, clamp_band};
@@ -31,11 +29,9 @@ pub use laws::{
 pub use limits::Limits;
 pub use lookups::{lookup, lookup_band};
 pub use mixes::{mix, mix_band};
-pub use place::Place;
 pub use rate_table::RateTable;
 pub use shares::{MILLION, keep, keep_band, share, share_band};
 pub use sums::{add, add_band, sub, sub_band};
-pub use text::Text;
 pub use trays::{tray, tray_band};
 
 #[cfg(test)]

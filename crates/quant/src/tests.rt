@@ -222,15 +222,3 @@ fn bands_have_ordered_ends(rt: HostRuntime) {
     assert_eq!(rt; Band::new(3, 3), Some(Band::point(3)));
     assert_eq!(rt; Band::new(3, 2), None);
 }
-
-#[test]
-fn texts_keep_their_bytes(rt: HostRuntime) -> Result<(), Fail> {
-    let name = Text::copied(rt.alloc(), b"tank")?;
-    assert!(rt; name.as_bytes() == b"tank".as_slice());
-    let name = Text::new(b"feed".to_vec(rt.alloc())?);
-    assert!(rt; name.as_bytes() == b"feed".as_slice());
-    assert!(rt; name.into_bytes().as_slice() == b"feed".as_slice());
-    let place = Place::new(b"unit[0]".to_vec(rt.alloc())?);
-    assert!(rt; place.into_bytes().as_slice() == b"unit[0]".as_slice());
-    Ok(())
-}

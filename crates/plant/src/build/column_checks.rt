@@ -12,7 +12,8 @@ use crate::fault::{PlantFault, Unbuilt};
 use crate::limits::source_limits;
 use crate::streams::Stream;
 use parts::{KindPart, Parts, UnitPart};
-use quant::{MILLION, Text};
+use plant_names::Text;
+use quant::MILLION;
 use std::alloc::Global;
 
 /// The product of two numbers, which 128 bits always hold.

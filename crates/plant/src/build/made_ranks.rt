@@ -15,7 +15,7 @@ use crate::laws::checked_parts_are_sound;
 use crate::streams::Stream;
 use crate::units::Unit;
 use parts::Parts;
-use quant::Text;
+use plant_names::Text;
 use std::alloc::{AllocError, Global};
 use topology::{RankFault, ranks, ranks_are_found};
 

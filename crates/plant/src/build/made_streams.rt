@@ -7,7 +7,7 @@ ghost use Rattle.plant.specs.Seen.{port_seen};
 use super::ports::{Port, ports_of};
 use crate::streams::{Stream, StreamSource};
 use parts::{FeedKind, FeedPart, Parts, UnitPart};
-use quant::Text;
+use plant_names::Text;
 use std::alloc::{AllocError, Global};
 
 /// Whether a feed is a signal.

@@ -17,7 +17,8 @@ use basic_units::{Mixer, Reactor, Splitter, Tank};
 use column_section::Column;
 use controllers::Controller;
 use parts::{KindPart, Parts, UnitPart};
-use quant::{Band, Limits, RateTable, Text};
+use plant_names::Text;
+use quant::{Band, Limits, RateTable};
 use std::alloc::{AllocError, Global};
 
 /// The number of the stream with this name, and 0 where there is none.

@@ -8,7 +8,7 @@ ghost use Rattle.plant.specs.Seen.{name_seen};
 use super::each::Check;
 use crate::fault::{PlantFault, Unbuilt};
 use parts::{FeedPart, Parts, UnitPart};
-use quant::Text;
+use plant_names::Text;
 use std::alloc::{AllocError, Global};
 
 fn add_feeds<'a>(names: &mut Vec<&'a [u8]>, feeds: &'a [FeedPart]) -> Result<(), AllocError>

@@ -3,7 +3,7 @@
 ghost use Rattle.std.specs.Prelude.{◌≡◌, IfOk};
 ghost use Rattle.plant.specs.Building.{unit_place, feed_place, piece_place};
 
-use quant::Place;
+use plant_names::Place;
 use std::alloc::{AllocError, Global};
 
 /// The place of a unit's key.

@@ -5,7 +5,7 @@ ghost use Rattle.plant.specs.Streams.{ports_of, needs_material, needs_signal, mi
 ghost use Rattle.plant.specs.Seen.{port_seen, reference_seen};
 
 use parts::KindPart;
-use quant::Text;
+use plant_names::Text;
 use std::alloc::{AllocError, Global};
 
 /// An output port.

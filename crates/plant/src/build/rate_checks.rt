@@ -6,7 +6,7 @@ ghost use Rattle.plant.specs.Building.{Passes, unit_place, rises_well, rate_refu
 use super::each::{Check, each};
 use crate::fault::{PlantFault, Unbuilt};
 use parts::{KindPart, UnitPart};
-use quant::Place;
+use plant_names::Place;
 use std::alloc::{AllocError, Global};
 
 /// The place of a point of a unit's rate table.

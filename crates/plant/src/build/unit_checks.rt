@@ -15,7 +15,8 @@ use crate::fault::{PlantFault, Unbuilt};
 use crate::limits::limits_in;
 use crate::streams::Stream;
 use parts::UnitPart;
-use quant::{Band, Limits, Place};
+use plant_names::Place;
+use quant::{Band, Limits};
 use std::alloc::{AllocError, Global};
 
 /// Where a unit's reference stands.

@@ -1,6 +1,6 @@
 ghost use Rattle.std.specs.Prelude.{◌≡◌};
 ghost use Rattle.std.specs.List.{list_all};
-ghost use Rattle.parts.specs.Name.{is_name_byte, is_name, is_reference};
+ghost use Rattle.plant_names.specs.Name.{is_name_byte, is_name, is_reference};
 
 /// Whether the byte is a lowercase letter, a digit or `_`.
 fn is_name_byte(byte: u8) -> bool
