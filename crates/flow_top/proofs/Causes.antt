@@ -19,8 +19,9 @@ use Rattle.flow_top.specs.declared.fault.End.TheVariants.{Stopped, NoMemory}
 use Rattle.flow_top.specs.declared.fault.TopFault.{TopFault}
 use Rattle.flow_top.specs.declared.fault.TopFault.TheVariants as top
 use Rattle.flow_top.specs.Words.{command_in}
-use Rattle.flow_top.specs.Faults.{fault_of_text, fault_of_plant, own_status, status_of, stop_by}
-use Rattle.flow_top.specs.Judged.{Judgement, IsJudged, too_long, unread, unbuilt, built}
+use Rattle.flow_top.specs.Faults.{fault_of_text, fault_of_plant, IsTextFault, own_status, status_of, stop_by}
+use Rattle.flow_top.specs.Faults as faults
+use Rattle.flow_top.specs.Judged.{Judgement, IsJudged, too_long, unreadable, unbuilt, built}
 use Rattle.flow_top.specs.Course.{Course, written, text_of}
 use Rattle.flow_top.specs.Courses.{IsWork}
 use Rattle.flow_top.specs.Lines.{fault_line, constant_line, memory_line}
@@ -28,10 +29,9 @@ use Rattle.flow_top.specs.Uses.{SourceUse, SinkUse, IsUnwritten, WasGiven}
 use Rattle.flow_top.specs.Ended.{Ended, misread, asked, CommandEnded, WorkEnded, course_end, SaysParts, IsRefused, Stood}
 use Rattle.flow_top.specs.Ended as ended
 use Rattle.flow_top.specs.Stands.{Said, SaidLine, SaidMemory, SaidStop}
-use Rattle.flow_top.specs.Causes.{IsEndOn, refusal, course, WroteSome, WroteAll, Cause, AnswersOr}
+use Rattle.flow_top.specs.Causes.{IsEndOn, refusal, course, IsAtWork, WroteSome, WroteFront, WroteNoMore, SaysStop, Cause, AnswersOr, AnswersUnlessRead}
 use Rattle.flow_top.proofs.Judging.{judgement-unique}
 use Rattle.flow_top.proofs.Courses.{courses-agree, course-stops, work-exists}
-use Rattle.flow_top.proofs.Writes.{nothing-more}
 
 -- the refusals of a text are refusals
 text-refused : (fault : TextFault) → own_status (fault_of_text fault) ≡ status.Refused
@@ -59,23 +59,25 @@ plant-refused (part.ColumnTooFast unit) = refl
 plant-refused (part.InstantLoop unit) = refl
 plant-refused (part.TooDeep unit) = refl
 
-pub length-refused : own_status top.TooLong ≡ status.Refused
+length-refused : own_status top.TooLong ≡ status.Refused
 unfolding own_status
 length-refused = refl
 
-pub judged-refused : (bytes : List ℕ) (fault : TopFault) → IsJudged bytes (Err fault) → own_status fault ≡ status.Refused
-judged-refused bytes fault (too_long long e) =
-    let same : fault ≡ top.TooLong = cc e in ap own_status same ∙ length-refused
-judged-refused bytes fault (unread f short read e) =
-    let same : fault ≡ fault_of_text f = cc e in ap own_status same ∙ text-refused f
-judged-refused bytes fault (unbuilt parts f short read verdict e) =
-    let same : fault ≡ fault_of_plant f = cc e in ap own_status same ∙ plant-refused f
-judged-refused bytes fault (built parts short read is e) = absurd (cc e)
+kind-refused : (fault : TopFault) → IsTextFault fault → own_status fault ≡ status.Refused
+kind-refused fault (faults.too_long e) = ap own_status e ∙ length-refused
+kind-refused fault (faults.unreadable f e) = ap own_status e ∙ text-refused f
+kind-refused fault (faults.unbuilt f e) = ap own_status e ∙ plant-refused f
+
+pub judged-kind : (bytes : List ℕ) (fault : TopFault) → IsJudged bytes (Err fault) → IsTextFault fault
+judged-kind bytes fault (too_long long e) = faults.too_long (cc e)
+judged-kind bytes fault (unreadable f short read e) = faults.unreadable f (cc e)
+judged-kind bytes fault (unbuilt parts f short read verdict e) = faults.unbuilt f (cc e)
+judged-kind bytes fault (built parts short read is e) = absurd (cc e)
 
 -- judged parts are a plant
 pub judged-plant : (bytes : List ℕ) (parts : FileParts) → IsJudged bytes (Ok parts) → IsPlant parts
 judged-plant bytes parts (too_long long e) = absurd (cc e)
-judged-plant bytes parts (unread f short read e) = absurd (cc e)
+judged-plant bytes parts (unreadable f short read e) = absurd (cc e)
 judged-plant bytes parts (unbuilt p f short read verdict e) = absurd (cc e)
 judged-plant bytes parts (built p short read is e) = let same : p ≡ parts = cc e in subst IsPlant same is
 
@@ -126,18 +128,23 @@ end-unique command bytes one other (course parts c k w d) (refusal f j e) =
 end-unique command bytes one other (course p a j w e) (course q b k v d) =
     let same : q ≡ p = cc (judgement-unique bytes (Ok q) (Ok p) k j) in
     let moved : IsWork command p b = subst (λ parts. IsWork command parts b) same v in
-    e ∙ courses-agree command p a b w.course moved.course ∙ sym d
+    e ∙ courses-agree command p a b w.follows moved.follows ∙ sym d
 
 -- what was said of a stop is answered by its status, or by one that the error line explains
-own_or : (stop : Stop) (err : SinkUse) (result : Status) → SaidStop stop err result →
-    AnswersOr stop.status err.before err.now result
+own_or : (stop : Stop) (err : SinkUse) (result : Status) → SaidStop stop err result → AnswersOr stop.status err result
 own_or stop err result (inl (inl s)) = inl s.1
 own_or stop err result (inl (inr s)) = inr (inl (s.1, s.0.fault))
 own_or stop err result (inr s) = elim s.1 [ inl m ↦ inr (inr m.1) | inr m ↦ inr (inl (m.1, m.0.fault)) ]
 
-memory_or : (own : Status) (err : SinkUse) (result : Status) → SaidMemory err result → AnswersOr own err.before err.now result
+memory_or : (own : Status) (err : SinkUse) (result : Status) → SaidMemory err result → AnswersOr own err result
 memory_or own err result (inl s) = inr (inr s.1)
 memory_or own err result (inr s) = inr (inl (s.1, s.0.fault))
+
+-- the status of a read fault comes with its count
+read_or : (own : Status) (plant : SourceUse) (err : SinkUse) (result : Status) → Rose plant.before plant.now →
+    AnswersOr status.ReadFault err result → AnswersUnlessRead own plant err result
+read_or own plant err result rose (inl e) = inr (e, rose)
+read_or own plant err result rose (inr s) = inl (inr s)
 
 -- where the errors did not fail, want of memory was answered
 memory_alone : (err : SinkUse) (result : Status) → SaidMemory err result → ¬ Rose err.before err.now →
@@ -146,38 +153,36 @@ memory_alone err result (inl s) r = inr s.1
 memory_alone err result (inr s) r = absurd (r s.0.fault)
 
 module _ (words : List (List ℕ)) (plant : SourceUse) (out err : SinkUse) (result : Status) where
+  no_more : IsUnwritten out ⊎ WroteSome words plant out → WroteNoMore words plant out
+  no_more (inl u) = inl u
+  no_more (inr w) = inr (inl w)
+
   -- the cause of what is answered where memory runs out
-  by_memory : SaidMemory err result →
-      ((out.has ≡ out.had) ⊎ WroteSome words plant.text plant.left out.had out.has) →
-      Cause result words plant out err
-  by_memory (inl s) stood = subst (λ r. Cause r words plant out err) (sym s.1) (s.0, stood)
-  by_memory (inr s) stood = subst (λ r. Cause r words plant out err) (sym s.1) (inr s.0.fault)
+  by_memory : SaidMemory err result → IsUnwritten out ⊎ WroteSome words plant out → Cause result words plant out err
+  by_memory (inl s) stood = subst (λ r. Cause r words plant out err) (sym s.1) (record { line = s.0; output = stood })
+  by_memory (inr s) stood =
+      subst (λ r. Cause r words plant out err) (sym s.1) (inr (record { fault = s.0.fault; output = no_more stood }))
 
   -- the cause of what is answered at a stop
-  by_stop : (stop : Stop) → SaidStop stop err result →
+  by_stop : (stop : Stop) → SaidStop stop err result → WroteNoMore words plant out →
       (WasGiven err (fault_line stop.fault) → Cause stop.status words plant out err) →
-      (constant_line stop.fault ≡ None →
-      (out.has ≡ out.had) ⊎ WroteSome words plant.text plant.left out.had out.has) →
-      Cause result words plant out err
-  by_stop stop (inl (inl s)) own stood = subst (λ r. Cause r words plant out err) (sym s.1) (own s.0)
-  by_stop stop (inl (inr s)) own stood = subst (λ r. Cause r words plant out err) (sym s.1) (inr s.0.fault)
-  by_stop stop (inr s) own stood = by_memory s.1 (stood s.0)
+      (constant_line stop.fault ≡ None → IsUnwritten out ⊎ WroteSome words plant out) → Cause result words plant out err
+  by_stop stop (inl (inl s)) more own stood = subst (λ r. Cause r words plant out err) (sym s.1) (own s.0)
+  by_stop stop (inl (inr s)) more own stood =
+      subst (λ r. Cause r words plant out err) (sym s.1) (inr (record { fault = s.0.fault; output = more }))
+  by_stop stop (inr s) more own stood = by_memory s.1 (stood s.0)
 
-  -- what stands of a course
-  some_windows : (command : Command) (parts : FileParts) (course : Course) (k : ℕ) → command_in words ≡ Ok command →
-      SaysParts plant parts → IsWork command parts course → Stood course k out →
-      WroteSome words plant.text plant.left out.had out.has
-  some_windows command parts c k a says work stood = record {
+  -- a command at work on the plant
+  abbrev at_work : (command : Command) (parts : FileParts) (c : Course) → command_in words ≡ Ok command → SaysParts plant parts →
+      IsWork command parts c → IsAtWork words plant
+  at_work command parts c a says work = record {
     command = command;
     parts = parts;
     course = c;
-    windows = k;
     asked = a;
     says = says.text;
     read = says.whole;
     work = work;
-    few = stood.few;
-    output = stood.output;
   }
 
   -- the cause at the end of a course
@@ -185,67 +190,46 @@ module _ (words : List (List ℕ)) (plant : SourceUse) (out err : SinkUse) (resu
       SaysParts plant parts → IsWork command parts c → Stood c c.windows out → c.stop ≡ end →
       Said (course_end end) err result → Cause result words plant out err
   by_course None command parts c a says work stood e said =
-      subst (λ r. Cause r words plant out err) (sym said.1) (
-        record {
-          command = command;
-          parts = parts;
-          course = c;
-          asked = a;
-          says = says.text;
-          read = says.whole;
-          work = work;
-          whole = e;
-          output = stood.output;
-        },
-        said.0.text,
-      )
+      subst (λ r. Cause r words plant out err) (sym said.1)
+      (record { at = at_work command parts c a says work; whole = e; output = stood.output }, said.0)
   by_course (Some stop) command parts c a says work stood e said =
-      let stops = course-stops command parts c stop work.course e in
-      let silent = nothing-more out.had out.has
-      (subst (λ text. Gives out.had out.has text) stops.text stood.output) in
-      by_stop stop said (λ g. subst (λ s. Cause s words plant out err) (sym stops.refused) (
-        record {
-          command = command;
-          stop = stop;
-          asked = a;
-          ends = each_text plant.text (λ bytes. IsJudged bytes (Ok parts)) (λ bytes. IsEndOn command bytes (Some stop))
-              (λ bytes j. course parts c j work (sym e)) says.text;
-          status = stops.refused;
-          line = g;
-        },
-        silent,
-      )) (λ none. inl silent)
+      let stops = course-stops command parts c stop work.follows e in
+      let silent = stood.silent stops.text in
+      let status_is : stop.status ≡ status.Refused = sym (ap (λ (s : Stop). s.status) stops.stop_is) ∙ stops.refused in
+      by_stop stop said (inl silent) (λ g. subst (λ s. Cause s words plant out err) (sym status_is) (record {
+        command = command;
+        fault = stops.fault;
+        asked = a;
+        ends = each_text plant.text (λ bytes. IsJudged bytes (Ok parts))
+            (λ bytes. IsEndOn command bytes (Some (stop_by command stops.fault)))
+            (λ bytes j. course parts c j work (ap Some stops.stop_is ∙ sym e)) says.text;
+        status = stops.refused;
+        line = subst (λ (s : Stop). WasGiven err (fault_line s.fault)) (sym stops.stop_is) g;
+        silent = silent;
+      })) (λ none. inl silent)
+
+  -- what is said where the plant is refused
+  says_refusal : (own : Status) (command : Command) (fault : TopFault) → command_in words ≡ Ok command → IsRefused plant fault →
+      IsUnwritten out → status_of command fault ≡ own → WasGiven err (fault_line fault) → SaysStop own words plant out err
+  says_refusal own command fault a r o s g = record {
+    command = command;
+    fault = fault;
+    asked = a;
+    ends = each_text plant.text (λ bytes. IsJudged bytes (Err fault))
+        (λ bytes. IsEndOn command bytes (Some (stop_by command fault))) (λ bytes j. refusal fault j refl) r.text;
+    status = s;
+    line = g;
+    silent = o;
+  }
 
   -- the cause where the plant is refused
   by_refusal : (command : Command) (fault : TopFault) → command_in words ≡ Ok command → IsRefused plant fault →
       IsUnwritten out → SaidStop (stop_by command fault) err result → Cause result words plant out err
   by_refusal command fault a r o said =
-      let ends = each_text plant.text (λ bytes. IsJudged bytes (Err fault))
-      (λ bytes. IsEndOn command bytes (Some (stop_by command fault))) (λ bytes j. refusal fault j refl) r.text in
-      by_stop (stop_by command fault) said (λ g. elim (refusal_status command fault r.refusal) [
-        | inl s ↦ subst (λ t. Cause t words plant out err) (sym s) (
-          record {
-            command = command;
-            stop = stop_by command fault;
-            asked = a;
-            ends = ends;
-            status = s;
-            line = g;
-          },
-          o.text,
-        )
-        | inr s ↦ subst (λ t. Cause t words plant out err) (sym s) (
-          record {
-            command = command;
-            stop = stop_by command fault;
-            asked = a;
-            ends = ends;
-            status = s;
-            line = g;
-          },
-          o.text,
-        )
-      ]) (λ none. inl o.text)
+      by_stop (stop_by command fault) said (inl o) (λ g. elim (refusal_status command fault (kind-refused fault r.kind)) [
+        | inl s ↦ subst (λ t. Cause t words plant out err) (sym s) (says_refusal status.Refused command fault a r o s g)
+        | inr s ↦ subst (λ t. Cause t words plant out err) (sym s) (says_refusal status.No command fault a r o s g)
+      ]) (λ none. inl o)
 
   -- the cause at each end of the work on a plant
   by_work : (command : Command) (parts : FileParts) (ending : Result (Unit {0}) End) → command_in words ≡ Ok command →
@@ -254,30 +238,38 @@ module _ (words : List (List ℕ)) (plant : SourceUse) (out err : SinkUse) (resu
   by_work command parts ending a says (ended.through c work stood e) said =
       by_course c.stop command parts c a says work stood refl (subst (λ x. Said x err result) e said)
   by_work command parts ending a says (ended.broken c work some broke e) said =
-      by_stop (stop_by command top.WriteOut) (subst (λ x. Said x err result) e said)
-      (λ g. subst (λ s. Cause s words plant out err) (sym (write_status command)) (inl (broke.fault, g))) (λ none. absurd (cc none))
-  by_work command parts ending a says (ended.early o e) said =
-      by_memory (subst (λ x. Said x err result) e said) (inl o.text)
-  by_work command parts ending a says (ended.within c k work stood e) said =
-      by_memory (subst (λ x. Said x err result) e said) (inr (some_windows command parts c k a says work stood))
+      let front : WroteFront words plant out = record { at = at_work command parts c a says work; output = broke } in
+      by_stop (stop_by command top.WriteOut) (subst (λ x. Said x err result) e said) (inr (inr front))
+      (λ g. subst (λ s. Cause s words plant out err) (sym (write_status command)) (inl (record { front = front; line = g })))
+      (λ none. absurd (cc none))
+  by_work command parts ending a says (ended.early o e) said = by_memory (subst (λ x. Said x err result) e said) (inl o)
+  by_work command parts ending a says (ended.within c k work stood less e) said =
+      by_memory (subst (λ x. Said x err result) e said) (inr (record {
+        at = at_work command parts c a says work;
+        windows = k;
+        few = stood.few;
+        fewer = less;
+        output = stood.output;
+      }))
 
   -- the cause at each end of a command
   by_command : (command : Command) (ending : Result (Unit {0}) End) → command_in words ≡ Ok command →
       CommandEnded command plant out ending → Said ending err result → Cause result words plant out err
   by_command command ending a (ended.refused fault r o e) said =
       by_refusal command fault a r o (subst (λ x. Said x err result) e said)
-  by_command command ending a (ended.unread rose o e) said =
-      by_stop (stop_by command top.ReadPlant) (subst (λ x. Said x err result) e said)
-      (λ g. subst (λ s. Cause s words plant out err) (sym (read_status command)) (rose, g, o.text)) (λ none. inl o.text)
-  by_command command ending a (ended.starved o e) said = by_memory (subst (λ x. Said x err result) e said) (inl o.text)
+  by_command command ending a (ended.failed rose o e) said =
+      by_stop (stop_by command top.ReadPlant) (subst (λ x. Said x err result) e said) (inl o)
+      (λ g. subst (λ s. Cause s words plant out err) (sym (read_status command)) (record { fault = rose; line = g; silent = o }))
+      (λ none. inl o)
+  by_command command ending a (ended.starved o e) said = by_memory (subst (λ x. Said x err result) e said) (inl o)
   by_command command ending a (ended.worked parts says w) said = by_work command parts ending a says w said
 
   -- the cause of what is answered
   cause : (ending : Result (Unit {0}) End) → Ended words plant out ending → Said ending err result →
       Cause result words plant out err
   cause ending (misread at w r o e) said =
-      by_stop (record { fault = top.Words at; status = status.Words }) (subst (λ x. Said x err result) e said)
-      (λ g. (at, w, g)) (λ none. inl o.text)
+      by_stop (record { fault = top.Words at; status = status.Words }) (subst (λ x. Said x err result) e said) (inl o)
+      (λ g. record { at = at; refused = w; line = g; unread = r; silent = o }) (λ none. inl o)
   cause ending (asked command a e) said = by_command command ending a e said
 
   pub caused : (own : Status) (ending : Result (Unit {0}) End) → Ended words plant out ending → Said ending err result →
@@ -286,7 +278,7 @@ module _ (words : List (List ℕ)) (plant : SourceUse) (out err : SinkUse) (resu
 
   -- refused words have their status
   pub words-only : (at : ℕ) (ending : Result (Unit {0}) End) → Ended words plant out ending →
-      Said ending err result → command_in words ≡ Err at → AnswersOr status.Words err.before err.now result
+      Said ending err result → command_in words ≡ Err at → AnswersOr status.Words err result
   words-only at ending (misread k w r o e) said d =
       own_or (record { fault = top.Words k; status = status.Words }) err result (subst (λ x. Said x err result) e said)
   words-only at ending (asked command a e) said d = absurd (cc (a, d))
@@ -305,26 +297,27 @@ module _ (words : List (List ℕ)) (plant : SourceUse) (out err : SinkUse) (resu
     -- a stop has its status, but where the source failed
     at_stop_of_work : (stop : Stop) (parts : FileParts) (ending : Result (Unit {0}) End) → SaysParts plant parts →
         WorkEnded command parts out ending → Said ending err result → IsEndOn command bytes (Some stop) →
-        AnswersOr stop.status err.before err.now result
+        AnswersOr stop.status err result
     at_stop_of_work stop parts ending says (ended.through c work stood e) said ends =
         let same = end-unique command bytes c.stop (Some stop) (course_end_on parts c says work) ends in
         own_or stop err result (subst (λ x. Said x err result) (e ∙ ap course_end same) said)
     at_stop_of_work stop parts ending says (ended.broken c work some broke e) said ends =
         let same = end-unique command bytes c.stop (Some stop) (course_end_on parts c says work) ends in
-        absurd (some (course-stops command parts c stop work.course same).text)
+        absurd (some (course-stops command parts c stop work.follows same).text)
     at_stop_of_work stop parts ending says (ended.early o e) said ends =
         memory_or stop.status err result (subst (λ x. Said x err result) e said)
-    at_stop_of_work stop parts ending says (ended.within c k work stood e) said ends =
+    at_stop_of_work stop parts ending says (ended.within c k work stood less e) said ends =
         memory_or stop.status err result (subst (λ x. Said x err result) e said)
 
     at_stop : (stop : Stop) (ending : Result (Unit {0}) End) → CommandEnded command plant out ending →
-        Said ending err result → IsEndOn command bytes (Some stop) →
-        AnswersOr stop.status err.before err.now result ⊎ Rose plant.before plant.now
+        Said ending err result → IsEndOn command bytes (Some stop) → AnswersUnlessRead stop.status plant err result
     at_stop stop ending (ended.refused fault r o e) said ends =
         let same : stop_by command fault ≡ stop =
         cc (end-unique command bytes (Some (stop_by command fault)) (Some stop) (refusal_on fault r) ends) in
         inl (own_or stop err result (subst (λ x. Said x err result) (e ∙ ap (λ s. Err (Stopped s)) same) said))
-    at_stop stop ending (ended.unread rose o e) said ends = inr rose
+    at_stop stop ending (ended.failed rose o e) said ends =
+        let said_read = own_or (stop_by command top.ReadPlant) err result (subst (λ x. Said x err result) e said) in
+        read_or stop.status plant err result rose (subst (λ s. AnswersOr s err result) (read_status command) said_read)
     at_stop stop ending (ended.starved o e) said ends =
         inl (memory_or stop.status err result (subst (λ x. Said x err result) e said))
     at_stop stop ending (ended.worked parts says w) said ends = inl (at_stop_of_work stop parts ending says w said ends)
@@ -342,7 +335,7 @@ module _ (words : List (List ℕ)) (plant : SourceUse) (out err : SinkUse) (resu
     at_end_of_work parts ending says (ended.broken c work some broke e) said ends o r = absurd (o broke.fault)
     at_end_of_work parts ending says (ended.early w e) said ends o r =
         memory_alone err result (subst (λ x. Said x err result) e said) r
-    at_end_of_work parts ending says (ended.within c k work stood e) said ends o r =
+    at_end_of_work parts ending says (ended.within c k work stood less e) said ends o r =
         memory_alone err result (subst (λ x. Said x err result) e said) r
 
     at_whole : (ending : Result (Unit {0}) End) → CommandEnded command plant out ending →
@@ -351,7 +344,7 @@ module _ (words : List (List ℕ)) (plant : SourceUse) (out err : SinkUse) (resu
         (result ≡ status.Done) ⊎ (result ≡ status.NoMemory)
     at_whole ending (ended.refused fault d w e) said ends p o r =
         absurd (cc (end-unique command bytes (Some (stop_by command fault)) None (refusal_on fault d) ends))
-    at_whole ending (ended.unread rose w e) said ends p o r = absurd (p rose)
+    at_whole ending (ended.failed rose w e) said ends p o r = absurd (p rose)
     at_whole ending (ended.starved w e) said ends p o r =
         memory_alone err result (subst (λ x. Said x err result) e said) r
     at_whole ending (ended.worked parts says w) said ends p o r = at_end_of_work parts ending says w said ends o r
@@ -365,7 +358,7 @@ module _ (words : List (List ℕ)) (plant : SourceUse) (out err : SinkUse) (resu
   pub stopped-only : (command : Command) (bytes : List ℕ) (stop : Stop) (ending : Result (Unit {0}) End) →
       Ended words plant out ending → Said ending err result → command_in words ≡ Ok command →
       plant.text ≡ Some bytes → IsEndOn command bytes (Some stop) →
-      AnswersOr stop.status err.before err.now result ⊎ Rose plant.before plant.now
+      AnswersUnlessRead stop.status plant err result
   stopped-only command bytes stop ending (misread at w r o e) said a t ends = absurd (cc (a, w))
   stopped-only command bytes stop ending (asked k b e) said a t ends =
       at_stop command bytes t stop ending (this_command command k ending a b e) said ends

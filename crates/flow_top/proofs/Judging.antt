@@ -13,7 +13,7 @@ use Rattle.flow_file.specs.Plant.{parts_in}
 use Rattle.flow_file.specs.declared.fault.TextFault.{TextFault}
 use Rattle.flow_top.specs.declared.fault.TopFault.TheVariants as top
 use Rattle.flow_top.specs.Faults.{fault_of_text, fault_of_plant}
-use Rattle.flow_top.specs.Judged.{Judgement, most_bytes, IsJudged, too_long, unread, unbuilt, built}
+use Rattle.flow_top.specs.Judged.{Judgement, most_bytes, IsJudged, too_long, unreadable, unbuilt, built}
 
 -- no text is both longer than the most bytes and not
 apart : (n : ℕ) → most_bytes < n → n ≤ most_bytes → ⊥
@@ -34,7 +34,7 @@ module _ (text : List ℕ) (other : Judgement) where
       IsVerdict parts verdict →
       IsJudged text other → other ≡ of_verdict parts verdict
   by_verdict parts verdict short read is (too_long long e) = absurd (apart (length text) long short)
-  by_verdict parts verdict short read is (unread fault s r e) = absurd (cc (read, r))
+  by_verdict parts verdict short read is (unreadable fault s r e) = absurd (cc (read, r))
   by_verdict parts verdict short read is (unbuilt found fault s r v e) =
       let same : found ≡ parts = cc (read, r) in
       e ∙ ap (of_verdict parts)
@@ -49,7 +49,7 @@ module _ (text : List ℕ) (other : Judgement) where
   by_reading : (fault : TextFault) → length text ≤ most_bytes → parts_in text ≡ Err fault → IsJudged text other →
       other ≡ Err (fault_of_text fault)
   by_reading fault short read (too_long long e) = absurd (apart (length text) long short)
-  by_reading fault short read (unread found s r e) =
+  by_reading fault short read (unreadable found s r e) =
       let same : found ≡ fault = cc (read, r) in e ∙ ap (λ f. Err (fault_of_text f)) same
   by_reading fault short read (unbuilt parts found s r v e) = absurd (cc (read, r))
   by_reading fault short read (built parts s r plant e) = absurd (cc (read, r))
@@ -57,14 +57,14 @@ module _ (text : List ℕ) (other : Judgement) where
   -- every judgement of a text longer than the most bytes
   by_length : most_bytes < length text → IsJudged text other → other ≡ Err top.TooLong
   by_length long (too_long l e) = e
-  by_length long (unread fault s r e) = absurd (apart (length text) long s)
+  by_length long (unreadable fault s r e) = absurd (apart (length text) long s)
   by_length long (unbuilt parts fault s r v e) = absurd (apart (length text) long s)
   by_length long (built parts s r plant e) = absurd (apart (length text) long s)
 
 -- there is one judgement of a text at most
 pub judgement-unique : (text : List ℕ) (one other : Judgement) → IsJudged text one → IsJudged text other → one ≡ other
 judgement-unique text one other (too_long long e) j = e ∙ sym (by_length text other long j)
-judgement-unique text one other (unread fault short read e) j = e ∙ sym (by_reading text other fault short read j)
+judgement-unique text one other (unreadable fault short read e) j = e ∙ sym (by_reading text other fault short read j)
 judgement-unique text one other (unbuilt parts fault short read v e) j =
     e ∙ sym (by_verdict text other parts (Err fault) short read v j)
 judgement-unique text one other (built parts short read plant e) j =
@@ -77,7 +77,7 @@ long-judged text long = too_long long refl
 -- a text that is no plant's
 pub unread-judged : (text : List ℕ) (fault : TextFault) → length text ≤ most_bytes → parts_in text ≡ Err fault →
     IsJudged text (Err (fault_of_text fault))
-unread-judged text fault short read = unread fault short read refl
+unread-judged text fault short read = unreadable fault short read refl
 
 -- parts that are no plant
 pub unbuilt-judged : (text : List ℕ) (parts : FileParts) (fault : PlantFault) → length text ≤ most_bytes →
@@ -101,7 +101,7 @@ module _ (verdicts : (parts : FileParts) → (verdict : Checked) × IsVerdict pa
 
   of_reading : (text : List ℕ) → length text ≤ most_bytes → (reading : Result FileParts TextFault) → parts_in text ≡ reading →
       (judgement : Judgement) × IsJudged text judgement
-  of_reading text short (Err fault) read = (Err (fault_of_text fault), unread fault short read refl)
+  of_reading text short (Err fault) read = (Err (fault_of_text fault), unreadable fault short read refl)
   of_reading text short (Ok parts) read = of_parts text parts short read (verdicts parts).0 (verdicts parts).1
 
   -- each text has a judgement

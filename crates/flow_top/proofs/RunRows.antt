@@ -87,3 +87,14 @@ unless-text (Some place) parts course stops e = absurd (cc (stops.stop, e))
 pub run-printed : (parts : FileParts) (course : Course) → IsRunCourse parts course → course.stop ≡ None →
     text_of course ≡ header ++ all_rows parts
 run-printed parts course is e = unless-text (not_built parts) parts course is e
+
+unless-windows : (place : Option (List ℕ)) (parts : FileParts) (course : Course) → RunsUnless place parts course →
+    course.stop ≡ None → (k : ℕ) → k ≤ course.windows →
+    written course k ≡ header ++ rows_of (labels_of parts) (streams_of_run parts) 0 (min (k * parts.window) parts.ticks)
+unless-windows None parts course runs e k h = first-windows parts course runs k h
+unless-windows (Some place) parts course stops e k h = absurd (cc (stops.stop, e))
+
+pub run-windows : (parts : FileParts) (course : Course) → IsRunCourse parts course → course.stop ≡ None → (k : ℕ) →
+    k ≤ course.windows →
+    written course k ≡ header ++ rows_of (labels_of parts) (streams_of_run parts) 0 (min (k * parts.window) parts.ticks)
+run-windows parts course is e k h = unless-windows (not_built parts) parts course is e k h

@@ -50,8 +50,3 @@ nothing-given had = record {
   told = elim had as (λ o. IfSome o (λ old. o ≡ Some (old ++ []))) [ None ↦ tt | Some old ↦ ap Some (sym (append-nil old)) ];
   untold = λ e. e;
 }
-
--- where nothing is given, the sink has what it had
-pub nothing-more : (had has : Option (List ℕ)) → Gives had has [] → has ≡ had
-nothing-more None has g = g.untold refl
-nothing-more (Some old) has g = g.told ∙ ap Some (append-nil old)

@@ -1,7 +1,5 @@
 -- A course: what a command does on a plant. It writes a header and then the rows of one window after another, up to its stop.
-use Rattle.std.specs.Prelude.{◌≡◌, ℕ, zero, suc, ◌++◌, List, Option, Some, None}
-use Rattle.flow_edge.specs.declared.status.Status.{Status}
-use Rattle.flow_edge.specs.declared.status.Status.TheVariants as status
+use Rattle.std.specs.Prelude.{ℕ, zero, suc, ◌++◌, List, Option}
 use Rattle.flow_top.specs.declared.fault.Stop.{Stop}
 
 pub record Course : Type 0 where
@@ -20,8 +18,3 @@ written course (suc k) = written course k ++ course.rows k
 -- the whole text
 abbrev pub text_of : Course → List ℕ
 text_of course = written course course.windows
-
--- the status in which it ends
-abbrev pub end_of : Option Stop → Status
-end_of None = status.Done
-end_of (Some stop) = stop.status

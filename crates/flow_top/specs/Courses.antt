@@ -12,6 +12,6 @@ IsCourse Run parts course = IsRunCourse parts course
 IsCourse Check parts course = IsCheckCourse parts course
 
 -- the parts are a plant, and this is what the command does on it
-pub record IsWork (command : Command) (parts : FileParts) (work : Course) : Type 0 where
+pub record IsWork (command : Command) (parts : FileParts) (course : Course) : Type 0 where
   pub plant : IsPlant parts
-  pub course : IsCourse command parts work
+  pub follows : IsCourse command parts course

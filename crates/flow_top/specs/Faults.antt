@@ -1,4 +1,5 @@
 -- What goes wrong, and the status that a command gives it.
+use Rattle.std.specs.Prelude.{◌≡◌}
 use Rattle.flow_edge.specs.declared.status.Status.{Status}
 use Rattle.flow_edge.specs.declared.status.Status.TheVariants as status
 use Rattle.flow_file.specs.declared.fault.TextFault.{TextFault}
@@ -6,7 +7,7 @@ use Rattle.flow_file.specs.declared.fault.TextFault.TheVariants as text
 use Rattle.plant.specs.declared.fault.PlantFault.{PlantFault}
 use Rattle.plant.specs.declared.fault.PlantFault.TheVariants as plant
 use Rattle.flow_top.specs.declared.words.Command.{Command}
-use Rattle.flow_top.specs.declared.words.Command.TheVariants.{Run, Check}
+use Rattle.flow_top.specs.declared.words.Command.TheVariants.{Check}
 use Rattle.flow_top.specs.declared.fault.TopFault.{TopFault}
 use Rattle.flow_top.specs.declared.fault.TopFault.TheVariants as top
 use Rattle.flow_top.specs.declared.fault.Stop.{Stop}
@@ -35,12 +36,38 @@ fault_of_plant (plant.ColumnTooFast unit) = top.ColumnTooFast unit
 fault_of_plant (plant.InstantLoop unit) = top.InstantLoop unit
 fault_of_plant (plant.TooDeep unit) = top.TooDeep unit
 
+-- a fault of a plant's text: it is too long, is not read, or its parts are no plant
+pub data IsTextFault (fault : TopFault) : Type 0 where
+  too_long : fault ≡ top.TooLong → IsTextFault fault
+  unreadable : (found : TextFault) → fault ≡ fault_of_text found → IsTextFault fault
+  unbuilt : (found : PlantFault) → fault ≡ fault_of_plant found → IsTextFault fault
+
 -- the status of a fault: a plant is refused, or a device failed
 unfoldable pub own_status : TopFault → Status
 own_status (top.Words at) = status.Words
+own_status top.TooLong = status.Refused
+own_status top.NotToml = status.Refused
+own_status (top.Format found) = status.Refused
+own_status (top.Missing place) = status.Refused
+own_status (top.WrongType place) = status.Refused
+own_status (top.UnknownKey place) = status.Refused
+own_status (top.OutOfRange place) = status.Refused
+own_status (top.BadName place) = status.Refused
+own_status (top.Twice name) = status.Refused
+own_status (top.NoSource place) = status.Refused
+own_status (top.WrongPort place) = status.Refused
+own_status (top.TooMany place) = status.Refused
+own_status (top.BadLimits place) = status.Refused
+own_status (top.StartOutside place) = status.Refused
+own_status (top.FeedPieces place) = status.Refused
+own_status (top.FeedOutside place) = status.Refused
+own_status (top.TableFalls place) = status.Refused
+own_status (top.ColumnTooFast unit) = status.Refused
+own_status (top.InstantLoop unit) = status.Refused
+own_status (top.TooDeep unit) = status.Refused
+own_status (top.NotBuilt place) = status.Refused
 own_status top.ReadPlant = status.ReadFault
 own_status top.WriteOut = status.WriteFault
-own_status _ = status.Refused
 
 -- the status that a command gives a fault: `check` answers No where units have no ranks, or one above the greatest
 unfoldable pub status_of : Command → TopFault → Status

@@ -21,7 +21,7 @@ Judgement = Result FileParts TopFault
 -- verdict; or its parts, which are a plant.
 pub data IsJudged (text : List ℕ) (judgement : Judgement) : Type 0 where
   too_long : most_bytes < length text → judgement ≡ Err top.TooLong → IsJudged text judgement
-  unread : (fault : TextFault) → length text ≤ most_bytes → parts_in text ≡ Err fault →
+  unreadable : (fault : TextFault) → length text ≤ most_bytes → parts_in text ≡ Err fault →
       judgement ≡ Err (fault_of_text fault) → IsJudged text judgement
   unbuilt : (parts : FileParts) (fault : PlantFault) → length text ≤ most_bytes → parts_in text ≡ Ok parts →
       IsVerdict parts (Err fault) → judgement ≡ Err (fault_of_plant fault) → IsJudged text judgement

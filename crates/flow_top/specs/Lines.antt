@@ -47,6 +47,27 @@ memory_line = codes "flowrelax: want of memory\n"
 
 -- the lines of failed devices are the same each time, and take no memory
 abbrev pub constant_line : TopFault → Option (List ℕ)
+constant_line (Words at) = None
+constant_line TooLong = None
+constant_line NotToml = None
+constant_line (Format found) = None
+constant_line (Missing place) = None
+constant_line (WrongType place) = None
+constant_line (UnknownKey place) = None
+constant_line (OutOfRange place) = None
+constant_line (BadName place) = None
+constant_line (Twice name) = None
+constant_line (NoSource place) = None
+constant_line (WrongPort place) = None
+constant_line (TooMany place) = None
+constant_line (BadLimits place) = None
+constant_line (StartOutside place) = None
+constant_line (FeedPieces place) = None
+constant_line (FeedOutside place) = None
+constant_line (TableFalls place) = None
+constant_line (ColumnTooFast unit) = None
+constant_line (InstantLoop unit) = None
+constant_line (TooDeep unit) = None
+constant_line (NotBuilt place) = None
 constant_line ReadPlant = Some (fault_line ReadPlant)
 constant_line WriteOut = Some (fault_line WriteOut)
-constant_line _ = None

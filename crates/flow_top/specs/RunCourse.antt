@@ -1,13 +1,14 @@
 -- The course of `run`: the rows of the interval run of a plant, window by window.
 use Rattle.std.specs.Prelude.{◌≡◌, ℕ, ◌*◌, ◌-◌, ◌<◌, ◌≤◌, ◌||◌, nat_lt, min, Bool, List, [], map, codes, Option, Some, None, is_some}
 use Rattle.std.specs.Prelude.{if◌then◌else◌}
-use Rattle.flow_edge.specs.declared.status.Status.TheVariants as status
 use Rattle.parts.specs.Parts.{FileParts}
 use Rattle.parts.specs.declared.parts.Widths.{Widths}
 use Rattle.plant.specs.Streams.{streams_of}
 use Rattle.plant.specs.Rows.{streams_of_run}
 use Rattle.report.specs.Output.{Label, header, rows_of}
-use Rattle.flow_top.specs.declared.fault.TopFault.TheVariants as top
+use Rattle.flow_top.specs.declared.words.Command.TheVariants.{Run}
+use Rattle.flow_top.specs.declared.fault.TopFault.TheVariants.{NotBuilt}
+use Rattle.flow_top.specs.Faults.{stop_by}
 use Rattle.flow_top.specs.Course.{Course}
 
 -- the names under which the streams are printed
@@ -55,7 +56,7 @@ not_built parts =
 pub record StopsAtOnce (place : List ℕ) (course : Course) : Type 0 where
   pub header : course.header ≡ []
   pub windows : course.windows ≡ 0
-  pub stop : course.stop ≡ Some (record { fault = top.NotBuilt place; status = status.Refused })
+  pub stop : course.stop ≡ Some (stop_by Run (NotBuilt place))
 
 abbrev pub RunsUnless : Option (List ℕ) → FileParts → Course → Type 0
 RunsUnless None parts course = RunsWhole parts course

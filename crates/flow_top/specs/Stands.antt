@@ -5,7 +5,7 @@ use Rattle.flow_edge.specs.declared.status.Status.TheVariants as status
 use Rattle.flow_top.specs.declared.fault.Stop.{Stop}
 use Rattle.flow_top.specs.declared.fault.End.{End}
 use Rattle.flow_top.specs.declared.fault.End.TheVariants.{Stopped, NoMemory}
-use Rattle.flow_top.specs.Uses.{SinkUse, Uses, IsUnread, IsUnwritten, WasGiven, Broke}
+use Rattle.flow_top.specs.Uses.{SinkUse, Uses, IsUntouched, IsUnwritten, WasGiven, Broke}
 use Rattle.flow_top.specs.Ended.{Ended}
 use Rattle.flow_top.specs.Lines.{fault_line, constant_line, memory_line}
 
@@ -34,5 +34,5 @@ pub record Stands (words : List (List ℕ)) (uses : Uses) (result : Status) : Ty
   pub ending : Result (Unit {0}) End
   pub ended : Ended words uses.plant uses.out ending
   pub said : Said ending uses.err result
-  pub extra : IsUnread uses.extra
+  pub extra : IsUntouched uses.extra
   pub trace : IsUnwritten uses.trace

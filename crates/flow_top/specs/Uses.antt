@@ -17,6 +17,13 @@ pub record SinkUse : Type 0 where
   pub before : ℕ
   pub now : ℕ
 
+-- a source's use, by what it tells, its count, and the source before and after the call; and a sink's
+abbrev pub source_use : {S : Type 0} → (S → Option (List ℕ)) → (S → ℕ) → S → S → SourceUse
+source_use left faults old new = record { text = left old; left = left new; before = faults old; now = faults new }
+
+abbrev pub sink_use : {S : Type 0} → (S → Option (List ℕ)) → (S → ℕ) → S → S → SinkUse
+sink_use given faults old new = record { had = given old; has = given new; before = faults old; now = faults new }
+
 -- the five devices: the plant text, the feed records, the output, the trace and the error lines
 pub record Uses : Type 0 where
   pub plant : SourceUse
@@ -26,7 +33,7 @@ pub record Uses : Type 0 where
   pub err : SinkUse
 
 -- nothing was taken, and no fault counted
-pub record IsUnread (source : SourceUse) : Type 0 where
+pub record IsUntouched (source : SourceUse) : Type 0 where
   pub text : source.left ≡ source.text
   pub count : source.now ≡ source.before
 

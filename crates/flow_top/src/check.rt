@@ -6,6 +6,7 @@ ghost use Rattle.plant.specs.Units.{units_of, ranks_of};
 ghost use Rattle.flow_top.specs.declared.words.Command.TheVariants.{Check};
 ghost use Rattle.flow_top.specs.Ended.{WorkEnded};
 ghost use Rattle.flow_top.specs.CheckCourse.{rank_rows};
+ghost use Rattle.flow_top.specs.Uses.{sink_use};
 
 use crate::fault::End;
 use crate::pieces::write_piece;
@@ -18,7 +19,7 @@ use std::alloc::{AllocError, Global};
 /// Writes the header and then one row for each unit.
 pub fn write_ranks<O: Sink>(alloc: Global, plant: &Plant, out: &mut O) -> Result<(), End>
     ensures { WorkEnded Check plant.now
-        (record { had = O.given out.old; has = O.given out.new; before = O.faults out.old; now = O.faults out.new }) result }
+        (sink_use O.given O.faults out.old out.new) result }
 {
     is_plant(plant);
     write_piece(Command::Check, rank_header(), out)?;

@@ -1,45 +1,59 @@
-ghost use Rattle.std.specs.Prelude.{◌≡◌, ◌<◌, ◌++◌, ℕ, ℤ, pos, List, [], ◌∷◌, length, Option};
+ghost use Rattle.std.specs.Prelude.{◌≡◌, ◌<◌, ◌≤◌, ◌*◌, ◌++◌, min, ℕ, ℤ, pos, List, [], ◌∷◌, length, Option, None};
 ghost use Rattle.quant.specs.Interval.{AllHold, point, points};
 ghost use Rattle.flowsheet.specs.Trajectory.{IsTrajectory};
 ghost use Rattle.flowsheet.specs.Limited.{ArePoints};
+ghost use Rattle.parts.specs.Parts.{FileParts};
 ghost use Rattle.parts.specs.Given.{given_bands};
+ghost use Rattle.plant.specs.Sound.{IsPlant};
 ghost use Rattle.plant.specs.Streams.{streams_of};
 ghost use Rattle.plant.specs.Units.{plant_of, carried_of};
 ghost use Rattle.plant.specs.Rows.{streams_of_run};
-ghost use Rattle.report.specs.Output.{header};
+ghost use Rattle.report.specs.Output.{header, rank_header, rows_of};
 ghost use Rattle.flow_top.specs.declared.words.Command.{Command};
 ghost use Rattle.flow_top.specs.declared.fault.Stop.{Stop};
 ghost use Rattle.flow_top.specs.Judged.{Judgement, IsJudged};
-ghost use Rattle.flow_top.specs.Course.{text_of};
-ghost use Rattle.flow_top.specs.RunCourse.{all_rows};
-ghost use Rattle.flow_top.specs.Causes.{WroteAll, IsEndOn};
+ghost use Rattle.flow_top.specs.Course.{Course, written, text_of};
+ghost use Rattle.flow_top.specs.Courses.{IsWork};
+ghost use Rattle.flow_top.specs.RunCourse.{all_rows, labels_of};
+ghost use Rattle.flow_top.specs.CheckCourse.{rank_rows};
+ghost use Rattle.flow_top.specs.Uses.{SourceUse};
+ghost use Rattle.flow_top.specs.Causes.{IsAtWork, IsEndOn};
 ghost use Rattle.flow_top.specs.Worked.{worked, between};
 
 use flow_file::read_parts_are_in_range;
 use flowsheet::{points_run_alone, trajectories_exist, trajectories_lie_in_the_run};
 use plant::{built_plants_are_plants, verdicts_exist};
 
-/// The bands that a done `run` printed hold each trajectory of its plant, at every tick that is printed, stream and channel.
+/// What a command at work on a plant prints, as the clauses of `flow_top` on done work, on want of memory and on a failed output
+/// give it.
+pub fn courses_print_the_run()
+    // After k windows of `run`: the header and the rows of the ticks of these windows, which together are the interval run.
+    ensures windows { (words : List (List ℕ)) (plant : SourceUse) (at : IsAtWork words plant) → at.command ≡ Command.Run →
+        at.course.stop ≡ None → (k : ℕ) → k ≤ at.course.windows →
+        written at.course k ≡ header ++
+        rows_of (labels_of at.parts) (streams_of_run at.parts) 0 (min (k * at.parts.window) at.parts.ticks) }
+    ensures run { (words : List (List ℕ)) (plant : SourceUse) (at : IsAtWork words plant) → at.command ≡ Command.Run →
+        at.course.stop ≡ None → text_of at.course ≡ header ++ all_rows at.parts }
+    ensures check { (words : List (List ℕ)) (plant : SourceUse) (at : IsAtWork words plant) → at.command ≡ Command.Check →
+        text_of at.course ≡ rank_header ++ rank_rows at.parts }
+{}
+
+/// The bands that are printed for a plant hold each trajectory of it, at every tick that is printed, stream and channel.
 /// Where each opening band is one number, and each feed at the printed ticks, they are the trajectory's values. Each plant has
-/// a trajectory.
+/// a trajectory. The law takes what the clauses of `flow_top` give of a command at work on a plant.
 pub fn printed_bands_hold_trajectories()
-    // What was printed: the header and the rows of the interval run.
-    ensures printed { (words : List (List ℕ)) (text left had has : Option (List ℕ)) (done : WroteAll words text left had has) →
-        done.command ≡ Command.Run → text_of done.course ≡ header ++ all_rows done.parts }
-    ensures holds { (words : List (List ℕ)) (text left had has : Option (List ℕ)) (done : WroteAll words text left had has)
-        (x y : ℕ → ℕ → List ℤ) →
-        IsTrajectory (plant_of done.parts) (carried_of done.parts) (given_bands done.parts) done.parts.ticks x y →
-        (tick s : ℕ) → tick < done.parts.ticks → s < length (streams_of done.parts) →
-        AllHold (streams_of_run done.parts tick s) (x tick s) }
-    ensures values { (words : List (List ℕ)) (text left had has : Option (List ℕ)) (done : WroteAll words text left had has)
-        (x y : ℕ → ℕ → List ℤ) →
-        ArePoints (plant_of done.parts) (carried_of done.parts) (given_bands done.parts) done.parts.ticks →
-        IsTrajectory (plant_of done.parts) (carried_of done.parts) (given_bands done.parts) done.parts.ticks x y →
-        (tick s : ℕ) → tick < done.parts.ticks → s < length (streams_of done.parts) →
-        streams_of_run done.parts tick s ≡ points (x tick s) }
-    ensures exists { (words : List (List ℕ)) (text left had has : Option (List ℕ)) (done : WroteAll words text left had has) →
+    ensures holds { (words : List (List ℕ)) (plant : SourceUse) (at : IsAtWork words plant) (x y : ℕ → ℕ → List ℤ) →
+        IsTrajectory (plant_of at.parts) (carried_of at.parts) (given_bands at.parts) at.parts.ticks x y →
+        (tick s : ℕ) → tick < at.parts.ticks → s < length (streams_of at.parts) →
+        AllHold (streams_of_run at.parts tick s) (x tick s) }
+    ensures values { (words : List (List ℕ)) (plant : SourceUse) (at : IsAtWork words plant) (x y : ℕ → ℕ → List ℤ) →
+        ArePoints (plant_of at.parts) (carried_of at.parts) (given_bands at.parts) at.parts.ticks →
+        IsTrajectory (plant_of at.parts) (carried_of at.parts) (given_bands at.parts) at.parts.ticks x y →
+        (tick s : ℕ) → tick < at.parts.ticks → s < length (streams_of at.parts) →
+        streams_of_run at.parts tick s ≡ points (x tick s) }
+    ensures exists { (words : List (List ℕ)) (plant : SourceUse) (at : IsAtWork words plant) →
         (x : ℕ → ℕ → List ℤ) × (y : ℕ → ℕ → List ℤ) ×
-        IsTrajectory (plant_of done.parts) (carried_of done.parts) (given_bands done.parts) done.parts.ticks x y }
+        IsTrajectory (plant_of at.parts) (carried_of at.parts) (given_bands at.parts) at.parts.ticks x y }
 {
     built_plants_are_plants();
     trajectories_lie_in_the_run();
@@ -58,6 +72,18 @@ pub fn texts_are_judged_once()
     read_parts_are_in_range();
     verdicts_exist();
 }
+
+/// Each command has a course on each plant, and its courses on one plant write the same and stop alike.
+pub fn commands_have_one_course()
+    ensures exists { (command : Command) (parts : FileParts) → IsPlant parts →
+        (course : Course) × IsWork command parts course }
+    ensures windows { (command : Command) (parts : FileParts) (a b : Course) → IsWork command parts a →
+        IsWork command parts b → a.windows ≡ b.windows }
+    ensures text { (command : Command) (parts : FileParts) (a b : Course) → IsWork command parts a →
+        IsWork command parts b → (k : ℕ) → k ≤ a.windows → written a k ≡ written b k }
+    ensures stop { (command : Command) (parts : FileParts) (a b : Course) → IsWork command parts a →
+        IsWork command parts b → a.stop ≡ b.stop }
+{}
 
 /// The bands of a worked tank: its level at three ticks, and its outflow at the last.
 pub fn worked_bands()

@@ -14,7 +14,10 @@ mod top;
 mod words;
 
 pub use fault::{Stop, TopFault};
-pub use laws::{printed_bands_hold_trajectories, texts_are_judged_once, worked_bands};
+pub use laws::{
+    commands_have_one_course, courses_print_the_run, printed_bands_hold_trajectories,
+    texts_are_judged_once, worked_bands,
+};
 pub use lines::memory_line;
 pub use top::flow_top;
 pub use words::Command;

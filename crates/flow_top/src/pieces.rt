@@ -2,6 +2,7 @@
 
 ghost use Rattle.std.specs.Prelude.{◌≤◌};
 ghost use Rattle.flow_top.specs.Steps.{PieceEnded};
+ghost use Rattle.flow_top.specs.Uses.{sink_use};
 
 use crate::fault::{End, TopFault};
 use crate::stops::stop_by;
@@ -11,7 +12,7 @@ use flow_edge::Sink;
 /// Writes a piece of the command's output, or stops the command.
 pub fn write_piece<O: Sink>(command: Command, piece: &[u8], out: &mut O) -> Result<(), End>
     ensures ended { PieceEnded command result
-        (record { had = O.given out.old; has = O.given out.new; before = O.faults out.old; now = O.faults out.new }) piece.now }
+        (sink_use O.given O.faults out.old out.new) piece.now }
     ensures counted { O.faults out.old ≤ O.faults out.new }
 {
     match out.write(piece) {

@@ -3,6 +3,7 @@
 ghost use Rattle.std.specs.Prelude.{◌≤◌, length};
 ghost use Rattle.flow_top.specs.Judged.{IsJudged, most_bytes};
 ghost use Rattle.flow_top.specs.Steps.{Finds, PlantEnded};
+ghost use Rattle.flow_top.specs.Uses.{source_use};
 
 use crate::fault::{End, TopFault, Unfit};
 use crate::stops::stop_by;
@@ -18,7 +19,7 @@ const MOST_BYTES: u64 = 1_048_576;
 /// The plant that the source's text says, or why the command stops without one.
 pub fn plant_from<S: Source>(alloc: Global, command: Command, source: &mut S) -> Result<Plant, End>
     ensures { PlantEnded command result
-        (record { text = S.left source.old; left = S.left source.new; before = S.faults source.old; now = S.faults source.new }) }
+        (source_use S.left S.faults source.old source.new) }
 {
     let up = match read_up(alloc, source, MOST_BYTES) {
         Ok(up) => up,

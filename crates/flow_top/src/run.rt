@@ -11,6 +11,7 @@ ghost use Rattle.flow_top.specs.declared.fault.TopFault.TheVariants.{NotBuilt};
 ghost use Rattle.flow_top.specs.Ended.{WorkEnded};
 ghost use Rattle.flow_top.specs.Faults.{stop_by};
 ghost use Rattle.flow_top.specs.RunCourse.{all_rows, labels_of, asks_for_widths, not_built};
+ghost use Rattle.flow_top.specs.Uses.{sink_use};
 
 use crate::fault::{End, TopFault};
 use crate::pieces::write_piece;
@@ -26,7 +27,7 @@ use std::alloc::{AllocError, Global};
 /// Writes the header and then the rows of the plant's one window.
 pub fn write_run<O: Sink>(alloc: Global, plant: &Plant, out: &mut O) -> Result<(), End>
     ensures { WorkEnded Run plant.now
-        (record { had = O.given out.old; has = O.given out.new; before = O.faults out.old; now = O.faults out.new }) result }
+        (sink_use O.given O.faults out.old out.new) result }
 {
     if let Some(key) = not_built(plant.parts()) {
         return Err(unbuilt(alloc, key));

@@ -3,6 +3,7 @@
 ghost use Rattle.std.specs.Prelude.{◌≡◌, None};
 ghost use Rattle.flow_top.specs.Stands.{Said, SaidStop, SaidLine};
 ghost use Rattle.flow_top.specs.Lines.{constant_line};
+ghost use Rattle.flow_top.specs.Uses.{sink_use};
 
 use crate::fault::{End, Stop};
 use crate::lines::{constant_line, fault_line, memory_line};
@@ -12,7 +13,7 @@ use std::alloc::{AllocError, Global};
 /// Says how the work ended, and answers its status: nothing where it is whole, and else one line.
 pub fn say<F: Sink>(alloc: Global, ended: &Result<(), End>, err: &mut F) -> Status
     ensures { Said ended.now
-        (record { had = F.given err.old; has = F.given err.new; before = F.faults err.old; now = F.faults err.new }) result }
+        (sink_use F.given F.faults err.old err.new) result }
 {
     match ended {
         Ok(()) => Status::Done,
@@ -24,7 +25,7 @@ pub fn say<F: Sink>(alloc: Global, ended: &Result<(), End>, err: &mut F) -> Stat
 /// Says the line of a stop, or that memory ran out.
 fn say_stop<F: Sink>(alloc: Global, stop: &Stop, err: &mut F) -> Status
     ensures { SaidStop stop.now
-        (record { had = F.given err.old; has = F.given err.new; before = F.faults err.old; now = F.faults err.new }) result }
+        (sink_use F.given F.faults err.old err.new) result }
 {
     match constant_line(&stop.fault) {
         Some(line) => say_line(line, stop.status, err),
@@ -36,7 +37,7 @@ fn say_stop<F: Sink>(alloc: Global, stop: &Stop, err: &mut F) -> Status
 fn say_made_line<F: Sink>(alloc: Global, stop: &Stop, err: &mut F) -> Status
     requires { constant_line stop.now.fault ≡ None }
     ensures { SaidStop stop.now
-        (record { had = F.given err.old; has = F.given err.new; before = F.faults err.old; now = F.faults err.new }) result }
+        (sink_use F.given F.faults err.old err.new) result }
 {
     match fault_line(alloc, &stop.fault) {
         Ok(line) => say_line(&line, stop.status, err),
@@ -47,7 +48,7 @@ fn say_made_line<F: Sink>(alloc: Global, stop: &Stop, err: &mut F) -> Status
 /// Says a line, and answers the status that goes with it.
 fn say_line<F: Sink>(line: &[u8], own: Status, err: &mut F) -> Status
     ensures { SaidLine
-        (record { had = F.given err.old; has = F.given err.new; before = F.faults err.old; now = F.faults err.new })
+        (sink_use F.given F.faults err.old err.new)
         line.now own result }
 {
     match err.write(line) {

@@ -1,13 +1,12 @@
-ghost use Rattle.std.specs.Prelude.{◌≡◌, ◌⊎◌, ◌≤◌, ℕ, List, Some, None, Ok, Err};
+ghost use Rattle.std.specs.Prelude.{◌≡◌, ◌⊎◌, ℕ, List, Some, None, Ok, Err};
 ghost use Rattle.flow_edge.specs.Faults.{Rose};
-ghost use Rattle.flow_edge.specs.Sink.{Gives};
 ghost use Rattle.flow_top.specs.declared.words.Command.{Command};
 ghost use Rattle.flow_top.specs.declared.fault.Stop.{Stop};
-ghost use Rattle.flow_top.specs.declared.fault.TopFault.TheVariants.{ReadPlant, WriteOut};
 ghost use Rattle.flow_top.specs.Words.{command_in};
 ghost use Rattle.flow_top.specs.Ended.{Ended, CommandEnded, WorkEnded};
-ghost use Rattle.flow_top.specs.Causes.{WroteAll, WroteSome, SaysStop, SaysWords, IsEndOn, AnswersOr};
-ghost use Rattle.flow_top.specs.Lines.{fault_line, memory_line};
+ghost use Rattle.flow_top.specs.Causes.{WroteAll, SaysStop, SaysWords, SaysReadFault, SaysWriteFault, SaysNothing, SaysMemory};
+ghost use Rattle.flow_top.specs.Causes.{IsEndOn, AnswersOr, AnswersUnlessRead};
+ghost use Rattle.flow_top.specs.Uses.{source_use, sink_use, IsUnwritten};
 ghost use Rattle.flow_top.specs.Stands.{Stands};
 
 use crate::check::write_ranks;
@@ -47,40 +46,45 @@ where
     F: Sink,
     G: Gate + Sync,
     // Done: the words are a command, the plant source was read to its end, and all that the command writes for the plant of
-    // its text was written.
-    ensures done { result ≡ Status.Done →
-        WroteAll words.now (S.left plant.old) (S.left plant.new) (O.given out.old) (O.given out.new) }
-    ensures done_quiet { result ≡ Status.Done → F.given err.new ≡ F.given err.old }
+    // its text was written, and nothing to the errors.
+    ensures done { result ≡ Status.Done → WroteAll words.now
+        (source_use S.left S.faults plant.old plant.new) (sink_use O.given O.faults out.old out.new) }
+    ensures done_quiet { result ≡ Status.Done → IsUnwritten (sink_use F.given F.faults err.old err.new) }
 
     // Words: exactly where they are refused, but where their line could not be written or memory ran out.
-    ensures words { result ≡ Status.Words → SaysWords words.now (F.given err.old) (F.given err.new) }
+    ensures words { result ≡ Status.Words → SaysWords words.now
+        (source_use S.left S.faults plant.old plant.new) (sink_use O.given O.faults out.old out.new)
+        (sink_use F.given F.faults err.old err.new) }
     ensures words_only { (at : ℕ) → command_in words.now ≡ Err at →
-        AnswersOr Status.Words (F.faults err.old) (F.faults err.new) result }
+        AnswersOr Status.Words (sink_use F.given F.faults err.old err.new) result }
 
-    // Refused and No: exactly where the command ends on the text of the plant source in a stop of this status, with its line,
-    // but where the source failed, the line could not be written or memory ran out.
-    ensures refused { result ≡ Status.Refused →
-        SaysStop Status.Refused words.now (S.left plant.old) (F.given err.old) (F.given err.new) }
-    ensures refused_silent { result ≡ Status.Refused → O.given out.new ≡ O.given out.old }
-    ensures no { result ≡ Status.No →
-        SaysStop Status.No words.now (S.left plant.old) (F.given err.old) (F.given err.new) }
-    ensures no_silent { result ≡ Status.No → O.given out.new ≡ O.given out.old }
+    // Refused and No: exactly where the command ends on the text of the plant source in a stop of this status, with its line
+    // and nothing in the output; but where the source failed, the line could not be written or memory ran out.
+    ensures refused { result ≡ Status.Refused → SaysStop Status.Refused words.now
+        (source_use S.left S.faults plant.old plant.new) (sink_use O.given O.faults out.old out.new)
+        (sink_use F.given F.faults err.old err.new) }
+    ensures no { result ≡ Status.No → SaysStop Status.No words.now
+        (source_use S.left S.faults plant.old plant.new) (sink_use O.given O.faults out.old out.new)
+        (sink_use F.given F.faults err.old err.new) }
     ensures stopped_only { (command : Command) (text : List ℕ) (stop : Stop) → command_in words.now ≡ Ok command →
         S.left plant.old ≡ Some text → IsEndOn command text (Some stop) →
-        AnswersOr stop.status (F.faults err.old) (F.faults err.new) result ⊎ Rose (S.faults plant.old) (S.faults plant.new) }
+        AnswersUnlessRead stop.status (source_use S.left S.faults plant.old plant.new)
+        (sink_use F.given F.faults err.old err.new) result }
 
     // Read fault and write fault: only where a count of faults rose, and with their line but where the errors failed.
-    ensures read_fault { result ≡ Status.ReadFault → Rose (S.faults plant.old) (S.faults plant.new) }
-    ensures read_fault_line { result ≡ Status.ReadFault → Gives (F.given err.old) (F.given err.new) (fault_line ReadPlant) }
-    ensures read_fault_silent { result ≡ Status.ReadFault → O.given out.new ≡ O.given out.old }
+    ensures read_fault { result ≡ Status.ReadFault → SaysReadFault
+        (source_use S.left S.faults plant.old plant.new) (sink_use O.given O.faults out.old out.new)
+        (sink_use F.given F.faults err.old err.new) }
     ensures write_fault { result ≡ Status.WriteFault →
-        (Rose (O.faults out.old) (O.faults out.new) × Gives (F.given err.old) (F.given err.new) (fault_line WriteOut)) ⊎
-        Rose (F.faults err.old) (F.faults err.new) }
+        SaysWriteFault words.now (source_use S.left S.faults plant.old plant.new)
+        (sink_use O.given O.faults out.old out.new) (sink_use F.given F.faults err.old err.new) ⊎
+        SaysNothing words.now (source_use S.left S.faults plant.old plant.new)
+        (sink_use O.given O.faults out.old out.new) (sink_use F.given F.faults err.old err.new) }
 
     // Want of memory comes with its line, and with nothing in the output, or the header and whole windows of a plant.
-    ensures no_memory { result ≡ Status.NoMemory → Gives (F.given err.old) (F.given err.new) memory_line }
-    ensures no_memory_output { result ≡ Status.NoMemory → (O.given out.new ≡ O.given out.old) ⊎
-        WroteSome words.now (S.left plant.old) (S.left plant.new) (O.given out.old) (O.given out.new) }
+    ensures no_memory { result ≡ Status.NoMemory → SaysMemory words.now
+        (source_use S.left S.faults plant.old plant.new) (sink_use O.given O.faults out.old out.new)
+        (sink_use F.given F.faults err.old err.new) }
 
     // The status of results that are too wide never comes.
     ensures never { result ≡ Status.Wide → ⊥ }
@@ -95,11 +99,11 @@ where
     // What stands after the call, for every status and every device.
     ensures stands { Stands words.now
         (record {
-          plant = record { text = S.left plant.old; left = S.left plant.new; before = S.faults plant.old; now = S.faults plant.new };
-          extra = record { text = E.left extra.old; left = E.left extra.new; before = E.faults extra.old; now = E.faults extra.new };
-          out = record { had = O.given out.old; has = O.given out.new; before = O.faults out.old; now = O.faults out.new };
-          trace = record { had = T.given trace.old; has = T.given trace.new; before = T.faults trace.old; now = T.faults trace.new };
-          err = record { had = F.given err.old; has = F.given err.new; before = F.faults err.old; now = F.faults err.new };
+          plant = source_use S.left S.faults plant.old plant.new;
+          extra = source_use E.left E.faults extra.old extra.new;
+          out = sink_use O.given O.faults out.old out.new;
+          trace = sink_use T.given T.faults trace.old trace.new;
+          err = sink_use F.given F.faults err.old err.new;
         })
         result }
 {
@@ -115,8 +119,8 @@ fn work<S: Source, O: Sink>(
     out: &mut O,
 ) -> Result<(), End>
     ensures { Ended words.now
-        (record { text = S.left source.old; left = S.left source.new; before = S.faults source.old; now = S.faults source.new })
-        (record { had = O.given out.old; has = O.given out.new; before = O.faults out.old; now = O.faults out.new })
+        (source_use S.left S.faults source.old source.new)
+        (sink_use O.given O.faults out.old out.new)
         result }
 {
     match command_in(words) {
@@ -136,8 +140,8 @@ fn do_command<S: Source, O: Sink>(
     out: &mut O,
 ) -> Result<(), End>
     ensures { CommandEnded command
-        (record { text = S.left source.old; left = S.left source.new; before = S.faults source.old; now = S.faults source.new })
-        (record { had = O.given out.old; has = O.given out.new; before = O.faults out.old; now = O.faults out.new })
+        (source_use S.left S.faults source.old source.new)
+        (sink_use O.given O.faults out.old out.new)
         result }
 {
     match plant_from(alloc, command, source) {
@@ -154,7 +158,7 @@ fn do_on_plant<O: Sink>(
     out: &mut O,
 ) -> Result<(), End>
     ensures { WorkEnded command plant.now
-        (record { had = O.given out.old; has = O.given out.new; before = O.faults out.old; now = O.faults out.new }) result }
+        (sink_use O.given O.faults out.old out.new) result }
 {
     match command {
         Command::Run => write_run(alloc, plant, out),

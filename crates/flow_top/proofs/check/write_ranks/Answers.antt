@@ -1,9 +1,9 @@
-use Rattle.std.proofs.Common.{refl}
+use Rattle.std.proofs.Common.{refl, arith}
 use Rattle.report.specs.Output.{rank_header}
 use Rattle.flow_top.specs.declared.words.Command.TheVariants.{Check}
 use Rattle.flow_top.specs.declared.fault.End.TheVariants.{NoMemory}
 use Rattle.flow_top.specs.CheckCourse.{rank_rows}
-use Rattle.flow_top.proofs.Courses.{check_course, check-work, check-writes}
+use Rattle.flow_top.proofs.Courses.{check_course, check-work, check-writes, check-header}
 use Rattle.flow_top.proofs.Work.{this-end, first-broke, header-stands, second-ended}
 use Rattle.flow_top.proofs.check.write_ranks.Goals as goal
 
@@ -22,7 +22,7 @@ returns-in_err-rows g c =
     let given = rw c.rank_header.ensures at c.in_ok-write_piece.ensures.ended in
     header-stands Check parts (check_course parts) rank_header (rank_rows parts) _ _
     (this-end c.from_residual-in_err-rows.result NoMemory c.from_residual-in_err-rows.ensures.1)
-    (check-work parts c.is_plant.ensures.plant) refl given
+    (check-work parts c.is_plant.ensures.plant) refl check-header (omega arith) given
 
 pub returns : goal.returns
 returns g c =

@@ -1,16 +1,17 @@
-use Rattle.std.proofs.Common.{◌≡◌, ◌∙◌, sym, ap, subst, List, ℕ, false, true, Ok, Err}
+use Rattle.std.proofs.Common.{◌≡◌, ◌∙◌, sym, ap, subst, List, ℕ, false, true, Ok, Err, refl}
 use Rattle.flow_edge.specs.ReadText.{ReadText}
 use Rattle.flow_top.specs.Judged.{IsJudged}
+use Rattle.flow_top.specs.Faults.{too_long}
 use Rattle.flow_top.specs.Steps.{Finds, refusal}
 use Rattle.flow_top.specs.declared.fault.TopFault.TheVariants.{TooLong}
 use Rattle.flow_top.proofs.Readings.{more-refused, whole-judged, whole-left}
-use Rattle.flow_top.proofs.Causes.{judged-refused, judged-plant, length-refused}
+use Rattle.flow_top.proofs.Causes.{judged-kind, judged-plant}
 use Rattle.flow_top.proofs.plant_text.plant_from.Goals as goal
 
 pub returns-then-up : goal.returns-then-up
 returns-then-up g c =
     let more : c.in-Ok.up.more ≡ true = ap (λ (u : ReadText). u.more) (sym c.up.view_is) ∙ c.if-up.true in
-    refusal TooLong (record { text = more-refused _ _ c.in-Ok.up c.in-Ok.ensures.ok more; refusal = length-refused })
+    refusal TooLong (record { text = more-refused _ _ c.in-Ok.up c.in-Ok.ensures.ok more; kind = too_long refl })
     c.stop_by-then-up.ensures
 
 pub returns-in-Ok-plant_in : goal.returns-in-Ok-plant_in
@@ -34,5 +35,5 @@ returns-in-Err-Fault g c =
     let judged = subst (λ (text : List ℕ). IsJudged text (Err c.in-Err-Fault.fault)) bytes found in
     refusal c.in-Err-Fault.fault (record {
       text = whole-judged _ _ c.in-Ok.up (Err c.in-Err-Fault.fault) c.in-Ok.ensures.ok more judged;
-      refusal = judged-refused c.in-Ok.up.bytes c.in-Err-Fault.fault judged;
+      kind = judged-kind c.in-Ok.up.bytes c.in-Err-Fault.fault judged;
     }) c.stop_by-in-Err-Fault.ensures

@@ -1,9 +1,9 @@
-use Rattle.std.proofs.Common.{◌≡◌, ◌∙◌, sym, ap, refl, Some, None}
+use Rattle.std.proofs.Common.{◌≡◌, ◌∙◌, sym, ap, refl, arith, Some, None}
 use Rattle.report.specs.Output.{header}
 use Rattle.flow_top.specs.declared.words.Command.TheVariants.{Run}
 use Rattle.flow_top.specs.declared.fault.End.TheVariants.{NoMemory}
 use Rattle.flow_top.specs.RunCourse.{all_rows, not_built}
-use Rattle.flow_top.proofs.Courses.{run_course, run-work, run-text, run-writes}
+use Rattle.flow_top.proofs.Courses.{run_course, run-work, run-text, run-writes, run-header}
 use Rattle.flow_top.proofs.Work.{this-end, unbuilt-ended, first-broke, header-stands, second-ended}
 use Rattle.flow_top.proofs.run.write_run.Goals as goal
 
@@ -30,7 +30,7 @@ returns-in_err-rows g c =
     let given = rw c.output_header.ensures at c.in_ok-write_piece.ensures.ended in
     header-stands Run parts (run_course parts) header (all_rows parts) _ _
     (this-end c.from_residual-in_err-rows.result NoMemory c.from_residual-in_err-rows.ensures.1)
-    (run-work parts c.parts.ensures.plant built) refl given
+    (run-work parts c.parts.ensures.plant built) refl run-header (omega arith) given
 
 pub returns : goal.returns
 returns g c =

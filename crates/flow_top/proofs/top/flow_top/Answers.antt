@@ -3,67 +3,38 @@ use Rattle.flow_top.proofs.Causes.{caused, words-only, stopped-only, complete}
 use Rattle.flow_top.proofs.top.flow_top.Goals as goal
 
 pub returns-clause-done : goal.returns-clause-done
-returns-clause-done g c d =
-    (caused _ _ _ _ _ status.Done c.work-ended.result c.work-ended.ensures c.say.ensures d).0
+returns-clause-done g c d = (caused _ _ _ _ _ status.Done c.work-ended.result c.work-ended.ensures c.say.ensures d).0
 
 pub returns-clause-done_quiet : goal.returns-clause-done_quiet
-returns-clause-done_quiet g c d =
-    (caused _ _ _ _ _ status.Done c.work-ended.result c.work-ended.ensures c.say.ensures d).1
+returns-clause-done_quiet g c d = (caused _ _ _ _ _ status.Done c.work-ended.result c.work-ended.ensures c.say.ensures d).1
 
 pub returns-clause-words : goal.returns-clause-words
-returns-clause-words g c d =
-    caused _ _ _ _ _ status.Words c.work-ended.result c.work-ended.ensures c.say.ensures d
+returns-clause-words g c d = caused _ _ _ _ _ status.Words c.work-ended.result c.work-ended.ensures c.say.ensures d
+
+pub returns-clause-refused : goal.returns-clause-refused
+returns-clause-refused g c d = caused _ _ _ _ _ status.Refused c.work-ended.result c.work-ended.ensures c.say.ensures d
+
+pub returns-clause-no : goal.returns-clause-no
+returns-clause-no g c d = caused _ _ _ _ _ status.No c.work-ended.result c.work-ended.ensures c.say.ensures d
+
+pub returns-clause-read_fault : goal.returns-clause-read_fault
+returns-clause-read_fault g c d = caused _ _ _ _ _ status.ReadFault c.work-ended.result c.work-ended.ensures c.say.ensures d
+
+pub returns-clause-write_fault : goal.returns-clause-write_fault
+returns-clause-write_fault g c d = caused _ _ _ _ _ status.WriteFault c.work-ended.result c.work-ended.ensures c.say.ensures d
+
+pub returns-clause-no_memory : goal.returns-clause-no_memory
+returns-clause-no_memory g c d = caused _ _ _ _ _ status.NoMemory c.work-ended.result c.work-ended.ensures c.say.ensures d
+
+pub returns-clause-never : goal.returns-clause-never
+returns-clause-never g c d = caused _ _ _ _ _ status.Wide c.work-ended.result c.work-ended.ensures c.say.ensures d
 
 pub returns-clause-words_only : goal.returns-clause-words_only
 returns-clause-words_only g c at d = words-only _ _ _ _ _ at c.work-ended.result c.work-ended.ensures c.say.ensures d
 
-pub returns-clause-refused : goal.returns-clause-refused
-returns-clause-refused g c d =
-    (caused _ _ _ _ _ status.Refused c.work-ended.result c.work-ended.ensures c.say.ensures d).0
-
-pub returns-clause-refused_silent : goal.returns-clause-refused_silent
-returns-clause-refused_silent g c d =
-    (caused _ _ _ _ _ status.Refused c.work-ended.result c.work-ended.ensures c.say.ensures d).1
-
-pub returns-clause-no : goal.returns-clause-no
-returns-clause-no g c d =
-    (caused _ _ _ _ _ status.No c.work-ended.result c.work-ended.ensures c.say.ensures d).0
-
-pub returns-clause-no_silent : goal.returns-clause-no_silent
-returns-clause-no_silent g c d =
-    (caused _ _ _ _ _ status.No c.work-ended.result c.work-ended.ensures c.say.ensures d).1
-
 pub returns-clause-stopped_only : goal.returns-clause-stopped_only
 returns-clause-stopped_only g c command text stop a t ends =
     stopped-only _ _ _ _ _ command text stop c.work-ended.result c.work-ended.ensures c.say.ensures a t ends
-
-pub returns-clause-read_fault : goal.returns-clause-read_fault
-returns-clause-read_fault g c d =
-    (caused _ _ _ _ _ status.ReadFault c.work-ended.result c.work-ended.ensures c.say.ensures d).0
-
-pub returns-clause-read_fault_line : goal.returns-clause-read_fault_line
-returns-clause-read_fault_line g c d =
-    (caused _ _ _ _ _ status.ReadFault c.work-ended.result c.work-ended.ensures c.say.ensures d).1
-
-pub returns-clause-read_fault_silent : goal.returns-clause-read_fault_silent
-returns-clause-read_fault_silent g c d =
-    (caused _ _ _ _ _ status.ReadFault c.work-ended.result c.work-ended.ensures c.say.ensures d).2
-
-pub returns-clause-write_fault : goal.returns-clause-write_fault
-returns-clause-write_fault g c d =
-    caused _ _ _ _ _ status.WriteFault c.work-ended.result c.work-ended.ensures c.say.ensures d
-
-pub returns-clause-no_memory : goal.returns-clause-no_memory
-returns-clause-no_memory g c d =
-    (caused _ _ _ _ _ status.NoMemory c.work-ended.result c.work-ended.ensures c.say.ensures d).0
-
-pub returns-clause-no_memory_output : goal.returns-clause-no_memory_output
-returns-clause-no_memory_output g c d =
-    (caused _ _ _ _ _ status.NoMemory c.work-ended.result c.work-ended.ensures c.say.ensures d).1
-
-pub returns-clause-never : goal.returns-clause-never
-returns-clause-never g c d =
-    caused _ _ _ _ _ status.Wide c.work-ended.result c.work-ended.ensures c.say.ensures d
 
 pub returns-clause-complete : goal.returns-clause-complete
 returns-clause-complete g c command text a t ends p o r =

@@ -1,0 +1,14 @@
+use Rattle.flow_top.proofs.Courses.{work-exists, work-agrees}
+use Rattle.flow_top.proofs.laws.commands_have_one_course.Goals as goal
+
+pub returns-clause-exists : goal.returns-clause-exists
+returns-clause-exists c = work-exists
+
+pub returns-clause-windows : goal.returns-clause-windows
+returns-clause-windows c command parts a b one other = (work-agrees command parts a b one.follows other.follows).windows
+
+pub returns-clause-text : goal.returns-clause-text
+returns-clause-text c command parts a b one other k h = (work-agrees command parts a b one.follows other.follows).text k h
+
+pub returns-clause-stop : goal.returns-clause-stop
+returns-clause-stop c command parts a b one other = (work-agrees command parts a b one.follows other.follows).stop
