@@ -16,6 +16,3 @@ mod values;
 pub use fault::{TextFault, Unread};
 pub use laws::read_parts_are_in_range;
 pub use plant::read_plant;
-
-#[cfg(test)]
-mod tests;

@@ -1,4 +1,4 @@
-use super::*;
+use flow_file::{TextFault, Unread, read_plant};
 use parts::{FeedBand, FeedKind, KindPart, Parts, Piece};
 use quant::Band;
 use std::alloc::Global;
