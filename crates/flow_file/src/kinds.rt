@@ -30,7 +30,7 @@ const GAIN: NumberIn = NumberIn {
 };
 
 /// What a tank or a reactor holds at the first tick.
-#[derive(Clone, Copy, Debug)]
+#[derive(Clone, Copy)]
 pub(crate) struct Contents {
     pub volume: Band,
     pub flow: Band,
@@ -39,7 +39,7 @@ pub(crate) struct Contents {
 }
 
 /// What a column starts from.
-#[derive(Clone, Copy, Debug)]
+#[derive(Clone, Copy)]
 pub(crate) struct Opening {
     pub x: Band,
     pub liquid_flow: Band,

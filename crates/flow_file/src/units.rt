@@ -17,7 +17,7 @@ use std::alloc::Global;
 use toml::Value;
 
 /// The kinds of units.
-#[derive(Clone, Copy, Debug, PartialEq, Eq)]
+#[derive(Clone, Copy, PartialEq, Eq)]
 pub(crate) enum UnitKind {
     Tank,
     Reactor,
