@@ -1,8 +1,12 @@
 -- What the array of a tree is, as the code finds it.
-use Rattle.std.proofs.Common.{◌≡◌, ◌≢◌, suc, List, [], ◌∷◌, length, None, refl, ap}
+use Rattle.std.proofs.Common.{◌≡◌, ◌≢◌, suc, List, [], ◌∷◌, length, Option, Some, None, refl, ap}
+use Rattle.std.specs.Prelude.{option_and_then}
+use Rattle.toml.specs.Data.{Items}
 use Rattle.toml.specs.View.{items_view}
 use Rattle.toml.specs.declared.value.Value.{Value}
-use Rattle.flow_file.specs.Value.{item_count, pair_of, triple_of}
+use Rattle.flow_file.specs.declared.fault.TextFault.{TextFault}
+use Rattle.flow_file.specs.Read.{◌>>=◌}
+use Rattle.flow_file.specs.Value.{or_fault, item_count, pair_of, triple_of}
 
 -- an array has as many values as its vector
 pub item_count_is_length : (values : List Value) → item_count (items_view values) ≡ length values
@@ -22,3 +26,9 @@ no_triple (a ∷ []) other = refl
 no_triple (a ∷ b ∷ []) other = refl
 no_triple (a ∷ b ∷ c ∷ []) other = absurd (other refl)
 no_triple (a ∷ b ∷ c ∷ d ∷ values) other = refl
+
+-- what is no array and an array without what is wanted are refused alike
+pub one_refusal : {A : Type 0} (found : Option Items) (wanted : Items → Option A) (refusal : TextFault) →
+    (or_fault found refusal >>= (λ array. or_fault (wanted array) refusal)) ≡ or_fault (option_and_then wanted found) refusal
+one_refusal (Some array) wanted refusal = refl
+one_refusal None wanted refusal = refl

@@ -6,8 +6,9 @@ use Rattle.parts.specs.Parts.{FileParts}
 use Rattle.parts.specs.InRange.{widths, AreWidths, AreWideLimits, AreOwnLimits, IsUnitPart, AreFeeds, AreInRange}
 use Rattle.toml.specs.Data.{Members}
 use Rattle.flow_file.specs.declared.plant.Frame.{Frame}
+use Rattle.flow_file.specs.declared.units.UnitKind.{UnitKind}
 use Rattle.flow_file.specs.Value.{Section, section_of, at_key, no_others, tree_of}
-use Rattle.flow_file.specs.Units.{unit_kind_of, own_limits_of, no_limits, unit_of}
+use Rattle.flow_file.specs.Units.{unit_kind_of, own_limits_of, no_limits, last_limits_of, unit_of}
 use Rattle.flow_file.specs.Plant.{format_of, run_of, limits_of, width_in, widths_of, no_widths}
 use Rattle.flow_file.specs.Plant.{widths_at, feeds_at, frame_of, parts_of, parts_in}
 use Rattle.flow_file.proofs.Yields.{Yields, Reads, given, anything, after, required, optional, or_else}
@@ -32,6 +33,13 @@ own_limits place node =
 no_limits_are : AreOwnLimits no_limits
 no_limits_are = record { flow = tt; conc = tt; temp = tt; volume = tt; signal = tt }
 
+last_limits : (kind : UnitKind) (section : Section) → Yields AreOwnLimits (last_limits_of kind section)
+unfolding last_limits_of
+last_limits kind section =
+    after (optional own_limits section _) (λ limits limits_are.
+    after (anything (no_others _ section)) (λ _ _.
+    given (or_else AreOwnLimits limits no_limits limits_are no_limits_are)))
+
 unit : Reads IsUnitPart unit_of
 unfolding unit_of
 unit place node =
@@ -39,13 +47,8 @@ unit place node =
     after (required name section _) (λ name name_is.
     after (anything (at_key unit_kind_of section _)) (λ kind _.
     after (part kind section) (λ part part_is.
-    after (optional own_limits section _) (λ limits limits_are.
-    after (anything (no_others _ section)) (λ _ _.
-    given (record {
-      name = name_is;
-      kind = part_is;
-      limits = or_else AreOwnLimits limits no_limits limits_are no_limits_are;
-    })))))))
+    after (last_limits kind section) (λ limits limits_are.
+    given (record { name = name_is; kind = part_is; limits = limits_are }))))))
 
 -- what stands before the feeds and the units
 run : Reads (λ run. IsBetween 1 100000 run.0 × IsBetween 1 64 run.1) run_of

@@ -167,6 +167,13 @@ own_limits_of place node = do
 abbrev pub no_limits : OwnLimits
 no_limits = record { flow = None; conc = None; temp = None; volume = None; signal = None }
 
+-- the limits of a unit, its own or none, behind which it has no other keys
+unfoldable pub last_limits_of : UnitKind → Section → Reading OwnLimits
+last_limits_of kind section = do
+  limits ← at_optional own_limits_of section (codes "limits")
+  others ← no_others (codes "name" ∷ codes "kind" ∷ codes "limits" ∷ keys_of kind) section
+  Ok (unwrap_or limits no_limits)
+
 -- a unit: its name, its kind, the keys of its kind, and its limits
 unfoldable pub unit_of : Bytes → Data → Reading UnitPart
 unit_of place node = do
@@ -174,6 +181,5 @@ unit_of place node = do
   name ← at_key name_of section (codes "name")
   kind ← at_key unit_kind_of section (codes "kind")
   part ← part_of kind section
-  limits ← at_optional own_limits_of section (codes "limits")
-  others ← no_others (codes "name" ∷ codes "kind" ∷ codes "limits" ∷ keys_of kind) section
-  Ok (record { name = name; kind = part; limits = unwrap_or limits no_limits })
+  limits ← last_limits_of kind section
+  Ok (record { name = name; kind = part; limits = limits })

@@ -15,7 +15,7 @@ use crate::fault::Unread;
 use crate::reader::Reader;
 use crate::section::{Section, section_at};
 use crate::spot::Spot;
-use crate::values::{Name, WideBand, band_between, text_at};
+use crate::values::{Name, WideBand, band_between, text_at, triple_of};
 use parts::{FeedBand, FeedKind, FeedPart, Piece, Pieces};
 use plant_names::Text;
 use std::alloc::Global;
@@ -35,16 +35,9 @@ impl Reader for PieceReader {
 
     ghost may_be = { λ _. IsPiece };
 
-    #[tactic(auto, using(crate::proofs::Lists::no_triple), unfolding(crate::specs::Feeds::piece_of))]
+    #[tactic(auto, using(crate::proofs::Lists::one_refusal), unfolding(crate::specs::Feeds::piece_of))]
     fn read(self, alloc: Global, spot: Spot, node: &Value) -> Result<Piece, Unread> {
-        let Some(array) = node.as_array() else {
-            return Err(spot.wrong_type(alloc)?);
-        };
-        let [tick, lo, hi] = array.as_slice() else {
-            return Err(spot.wrong_type(alloc)?);
-        };
-        let (Some(tick), Some(lo), Some(hi)) = (tick.as_integer(), lo.as_integer(), hi.as_integer())
-        else {
+        let Some((tick, (lo, hi))) = triple_of(node) else {
             return Err(spot.wrong_type(alloc)?);
         };
         if tick < 0 || LAST_PIECE < tick {

@@ -14,7 +14,7 @@ use crate::fault::Unread;
 use crate::reader::Reader;
 use crate::section::Section;
 use crate::spot::Spot;
-use crate::values::{CountIn, NumberIn, Reference, WIDEST, WideBand};
+use crate::values::{CountIn, NumberIn, Reference, WIDEST, WideBand, pair_of};
 use parts::{KindPart, RatePoints, Texts};
 use quant::{Band, MILLION};
 use std::alloc::Global;
@@ -30,7 +30,7 @@ const GAIN: NumberIn = NumberIn {
 };
 
 /// What a tank or a reactor holds at the first tick.
-#[derive(Clone, Copy, Debug)]
+#[derive(Clone, Copy)]
 pub(crate) struct Contents {
     pub volume: Band,
     pub flow: Band,
@@ -39,7 +39,7 @@ pub(crate) struct Contents {
 }
 
 /// What a column starts from.
-#[derive(Clone, Copy, Debug)]
+#[derive(Clone, Copy)]
 pub(crate) struct Opening {
     pub x: Band,
     pub liquid_flow: Band,
@@ -59,15 +59,9 @@ impl Reader for RatePointReader {
 
     ghost may_be = { λ _. IsRatePoint };
 
-    #[tactic(auto, using(crate::proofs::Lists::no_pair), unfolding(crate::specs::Units::rate_point_of))]
+    #[tactic(auto, using(crate::proofs::Lists::one_refusal), unfolding(crate::specs::Units::rate_point_of))]
     fn read(self, alloc: Global, spot: Spot, node: &Value) -> Result<(i64, i64), Unread> {
-        let Some(array) = node.as_array() else {
-            return Err(spot.wrong_type(alloc)?);
-        };
-        let [temp, ppm] = array.as_slice() else {
-            return Err(spot.wrong_type(alloc)?);
-        };
-        let (Some(temp), Some(ppm)) = (temp.as_integer(), ppm.as_integer()) else {
+        let Some((temp, ppm)) = pair_of(node) else {
             return Err(spot.wrong_type(alloc)?);
         };
         if temp < -WIDEST || WIDEST < temp || ppm < 0 || MILLION < ppm {

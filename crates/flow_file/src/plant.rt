@@ -42,7 +42,7 @@ const NO_WIDTHS: Widths = Widths {
 };
 
 /// What a text says before the feeds and the units.
-#[derive(Clone, Copy, Debug)]
+#[derive(Clone, Copy)]
 pub(crate) struct Frame {
     pub ticks: u32,
     pub window: u32,

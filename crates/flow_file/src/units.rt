@@ -3,7 +3,7 @@
 ghost use Rattle.std.specs.Prelude.{◌≡◌, ◌∷◌, codes, IfOk};
 ghost use Rattle.parts.specs.InRange.{IsKindPart, AreOwnLimits, IsUnitPart};
 ghost use Rattle.flow_file.specs.Read.{Gives};
-ghost use Rattle.flow_file.specs.Units.{kind_named, unit_kind_of, keys_of, part_of, own_limits_of, unit_of};
+ghost use Rattle.flow_file.specs.Units.{kind_named, unit_kind_of, keys_of, part_of, own_limits_of, last_limits_of, unit_of};
 ghost use Rattle.flow_file.specs.Spots.{seen, texts};
 
 use crate::fault::Unread;
@@ -17,7 +17,7 @@ use std::alloc::Global;
 use toml::Value;
 
 /// The kinds of units.
-#[derive(Clone, Copy, Debug, PartialEq, Eq)]
+#[derive(Clone, Copy, PartialEq, Eq)]
 pub(crate) enum UnitKind {
     Tank,
     Reactor,
@@ -167,6 +167,17 @@ const NO_LIMITS: OwnLimits = OwnLimits {
     signal: None,
 };
 
+/// The limits of a unit, its own or none, behind which it has no other keys.
+#[tactic(auto, unfolding(crate::specs::Units::last_limits_of))]
+fn last_limits_of(alloc: Global, kind: UnitKind, section: &Section) -> Result<OwnLimits, Unread>
+    ensures exact { Gives result (last_limits_of kind (seen section.now)) }
+    ensures inside { IfOk result AreOwnLimits }
+{
+    let limits = section.read_optional(alloc, "limits", OwnLimitsReader)?;
+    section.no_others(alloc, unit_keys(kind))?;
+    Ok(limits.unwrap_or(NO_LIMITS))
+}
+
 /// A unit: its name, its kind, the keys of its kind, and its limits.
 #[derive(Clone, Copy)]
 pub(crate) struct UnitReader;
@@ -184,12 +195,11 @@ impl Reader for UnitReader {
         let name = section.read(alloc, "name", Name)?;
         let kind = section.read(alloc, "kind", UnitKindReader)?;
         let part = part_of(alloc, kind, &section)?;
-        let limits = section.read_optional(alloc, "limits", OwnLimitsReader)?;
-        section.no_others(alloc, unit_keys(kind))?;
+        let limits = last_limits_of(alloc, kind, &section)?;
         Ok(UnitPart {
             name,
             kind: part,
-            limits: limits.unwrap_or(NO_LIMITS),
+            limits,
         })
     }
 }

@@ -1,11 +1,13 @@
 //! Readers of one value each: a number, a band, a name.
 
-ghost use Rattle.std.specs.Prelude.{◌≤◌, IfOk};
+ghost use Rattle.std.specs.Prelude.{◌≡◌, ◌≤◌, IfOk, option_and_then};
 ghost use Rattle.quant.specs.Interval.{Holds};
 ghost use Rattle.parts.specs.InRange.{IsWide, IsName, IsReference};
+ghost use Rattle.toml.specs.Data.{as_array};
 ghost use Rattle.toml.specs.View.{view};
 ghost use Rattle.flow_file.specs.Read.{Gives, GivesBy};
-ghost use Rattle.flow_file.specs.Value.{number_in, count_in, band_between, pair_band, band_of, text_of, name_of, reference_of};
+ghost use Rattle.flow_file.specs.Value.{number_in, count_in, band_between, pair_of, triple_of, pair_band, band_of};
+ghost use Rattle.flow_file.specs.Value.{text_of, name_of, reference_of};
 ghost use Rattle.flow_file.specs.Spots.{place_of};
 
 use crate::fault::Unread;
@@ -83,19 +85,38 @@ pub(crate) fn band_between(alloc: Global, spot: Spot, lo: i64, hi: i64) -> Resul
     }
 }
 
+/// The two whole numbers of an array of two.
+#[tactic(auto, using(crate::proofs::Lists::no_pair))]
+pub(crate) fn pair_of(node: &Value) -> Option<(i64, i64)>
+    ensures { result ≡ option_and_then pair_of (as_array (view node.now)) }
+{
+    let [first, second] = node.as_array()?.as_slice() else {
+        return None;
+    };
+    Some((first.as_integer()?, second.as_integer()?))
+}
+
+/// The three whole numbers of an array of three.
+#[tactic(auto, using(crate::proofs::Lists::no_triple))]
+pub(crate) fn triple_of(node: &Value) -> Option<(i64, (i64, i64))>
+    ensures { result ≡ option_and_then triple_of (as_array (view node.now)) }
+{
+    let [first, second, third] = node.as_array()?.as_slice() else {
+        return None;
+    };
+    Some((
+        first.as_integer()?,
+        (second.as_integer()?, third.as_integer()?),
+    ))
+}
+
 /// A band by its two ends in an array.
-#[tactic(auto, using(crate::proofs::Lists::no_pair), unfolding(crate::specs::Value::pair_band))]
+#[tactic(auto, using(crate::proofs::Lists::one_refusal), unfolding(crate::specs::Value::pair_band))]
 fn pair_band(alloc: Global, spot: Spot, node: &Value) -> Result<Band, Unread>
     ensures exact { Gives result (pair_band (place_of spot.entry) (view node.now)) }
     ensures inside { IfOk result IsWide }
 {
-    let Some(array) = node.as_array() else {
-        return Err(spot.wrong_type(alloc)?);
-    };
-    let [lo, hi] = array.as_slice() else {
-        return Err(spot.wrong_type(alloc)?);
-    };
-    let (Some(lo), Some(hi)) = (lo.as_integer(), hi.as_integer()) else {
+    let Some((lo, hi)) = pair_of(node) else {
         return Err(spot.wrong_type(alloc)?);
     };
     band_between(alloc, spot, lo, hi)

@@ -15,7 +15,7 @@ pub struct Piece {
 }
 
 /// The band of a feed's channel at each tick.
-#[derive(Debug, Drop)]
+#[derive(Drop)]
 pub enum FeedBand {
     /// The same at every tick.
     Constant { band: Band },
@@ -50,7 +50,7 @@ fn latest(pieces: &[Piece], tick: u32) -> Band
 }
 
 /// What a feed brings.
-#[derive(Debug, Drop)]
+#[derive(Drop)]
 pub enum FeedKind {
     /// A stream: flow in mL per tick, conc in mg/L, temp in mK.
     Material {
@@ -65,7 +65,7 @@ pub enum FeedKind {
 }
 
 /// A feed of the plant.
-#[derive(Debug, Drop)]
+#[derive(Drop)]
 pub struct FeedPart {
     pub name: Text,
     pub kind: FeedKind,

@@ -6,7 +6,7 @@ use plant_names::Text;
 use std::marker::Model;
 
 /// The pieces of a feed's band.
-#[derive(Debug, Drop)]
+#[derive(Drop)]
 pub struct Pieces {
     items: Vec<Piece>,
 }
@@ -44,7 +44,7 @@ impl Pieces {
 }
 
 /// The points of a rate table: a temperature in mK, and the ppm that react in a tick.
-#[derive(Debug, Drop)]
+#[derive(Drop)]
 pub struct RatePoints {
     items: Vec<(i64, i64)>,
 }
@@ -81,7 +81,7 @@ impl RatePoints {
 }
 
 /// References.
-#[derive(Debug, Drop)]
+#[derive(Drop)]
 pub struct Texts {
     items: Vec<Text>,
 }
@@ -118,7 +118,7 @@ impl Texts {
 }
 
 /// The feeds of a plant.
-#[derive(Debug, Drop)]
+#[derive(Drop)]
 pub struct FeedParts {
     items: Vec<FeedPart>,
 }
@@ -156,7 +156,7 @@ impl FeedParts {
 }
 
 /// The units of a plant.
-#[derive(Debug, Drop)]
+#[derive(Drop)]
 pub struct UnitParts {
     items: Vec<UnitPart>,
 }

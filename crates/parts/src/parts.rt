@@ -3,7 +3,7 @@ use quant::Limits;
 use std::marker::Model;
 
 /// The widths that are asked for: a band of a channel that is wider ends the run.
-#[derive(Clone, Copy, Debug, PartialEq, Eq)]
+#[derive(Clone, Copy, PartialEq, Eq)]
 pub struct Widths {
     pub flow: Option<i64>,
     pub conc: Option<i64>,
@@ -12,7 +12,7 @@ pub struct Widths {
 }
 
 /// What a plant file says. Each number, band and length is in its range, and each name is one.
-#[derive(Debug, Drop)]
+#[derive(Drop)]
 pub struct Parts {
     /// How many ticks the plant runs, 1 to 100,000.
     pub ticks: u32,

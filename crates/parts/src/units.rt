@@ -3,7 +3,7 @@ use plant_names::Text;
 use quant::Band;
 
 /// The limits of a unit that are its own, in place of the plant's.
-#[derive(Clone, Copy, Debug)]
+#[derive(Clone, Copy)]
 pub struct OwnLimits {
     pub flow: Option<Band>,
     pub conc: Option<Band>,
@@ -16,7 +16,7 @@ pub struct OwnLimits {
 ///
 /// A reference is the name of a feed, or the name of a unit, a dot and the name of one of its outputs. Volumes are in mL,
 /// flows in mL per tick, concentrations in mg/L, temperatures in mK, ratios and valve openings in ppm.
-#[derive(Debug, Drop)]
+#[derive(Drop)]
 pub enum KindPart {
     Tank {
         input: Text,
@@ -72,7 +72,7 @@ pub enum KindPart {
 }
 
 /// A unit of the plant.
-#[derive(Debug, Drop)]
+#[derive(Drop)]
 pub struct UnitPart {
     pub name: Text,
     pub kind: KindPart,

@@ -5,7 +5,7 @@ use std::marker::Model;
 
 /// A plant that was built of its parts: its streams, its units and their ranks. It is seen as its parts, which determine the
 /// rest.
-#[derive(Debug, Drop)]
+#[derive(Drop)]
 pub struct Plant {
     pub(crate) parts: Parts,
     pub(crate) streams: Vec<Stream>,
