@@ -122,31 +122,70 @@ value-between f h A G z v =
 pub hull-between : (f : ℤ → ℤ → ℤ) → ((a g : ℤ) → Holds (join (point (pos 0)) (point a)) (f a g)) → (A G R : Interval) → IsHull (IsValue2 f A G) R → IsInside R (join (point (pos 0)) A)
 hull-between f h A G R k = record { above = (value-between f h A G R.lo k.low).above; below = (value-between f h A G R.hi k.high).below }
 
--- the corners at which a blend is least and greatest, by which of the contents is more
-pub least-up : (r : Rounding) (c d : ℤ) (M V : Interval) (p : ℤ) → c ≤ℤ d → p ≡ blend r c d M.lo V.hi → (x y : ℤ) → Holds M x → Holds V y → p ≤ℤ blend r c d x y
-least-up r c d M V p l e x y h k = omega (arith, ints, blend-part_up r c d M.lo x V.hi l h.above, blend-volume_down r c d x y V.hi l k.below)
+-- the operation rises with its first number and falls with its second where c is not above d, and else the other way
+pub record IsTurned (c d : ℤ) (f : ℤ → ℤ → ℤ) : Type 0 where
+  pub first_up : (x y v : ℤ) → c ≤ℤ d → x ≤ℤ y → f x v ≤ℤ f y v
+  pub first_down : (x y v : ℤ) → d ≤ℤ c → x ≤ℤ y → f y v ≤ℤ f x v
+  pub second_down : (m x y : ℤ) → c ≤ℤ d → x ≤ℤ y → f m y ≤ℤ f m x
+  pub second_up : (m x y : ℤ) → d ≤ℤ c → x ≤ℤ y → f m x ≤ℤ f m y
 
-pub least-down : (r : Rounding) (c d : ℤ) (M V : Interval) (p : ℤ) → d ≤ℤ c → p ≡ blend r c d M.hi V.lo → (x y : ℤ) → Holds M x → Holds V y → p ≤ℤ blend r c d x y
-least-down r c d M V p l e x y h k = omega (arith, ints, blend-part_down r c d x M.hi V.lo l h.below, blend-volume_up r c d x V.lo y l k.above)
+pub blend-turned : (r : Rounding) (c d : ℤ) → IsTurned c d (blend r c d)
+blend-turned r c d = record {
+  first_up = blend-part_up r c d;
+  first_down = blend-part_down r c d;
+  second_down = blend-volume_down r c d;
+  second_up = blend-volume_up r c d;
+}
 
-pub greatest-up : (r : Rounding) (c d : ℤ) (M V : Interval) (p : ℤ) → c ≤ℤ d → p ≡ blend r c d M.hi V.lo → (x y : ℤ) → Holds M x → Holds V y → blend r c d x y ≤ℤ p
-greatest-up r c d M V p l e x y h k = omega (arith, ints, blend-part_up r c d x M.hi V.lo l h.below, blend-volume_down r c d x V.lo y l k.above)
+-- a mix the other way, so with its flows exchanged
+pub mix-turned : (r : Rounding) (c d : ℤ) → IsTurned c d (λ n m. mix r c d m n)
+mix-turned r c d = record {
+  first_up = λ x y m. mix-second_flow_up r c d m x y;
+  first_down = λ x y m. mix-second_flow_down r c d m x y;
+  second_down = λ n x y. mix-first_flow_down r c d x y n;
+  second_up = λ n x y. mix-first_flow_up r c d x y n;
+}
 
-pub greatest-down : (r : Rounding) (c d : ℤ) (M V : Interval) (p : ℤ) → d ≤ℤ c → p ≡ blend r c d M.lo V.hi → (x y : ℤ) → Holds M x → Holds V y → blend r c d x y ≤ℤ p
-greatest-down r c d M V p l e x y h k = omega (arith, ints, blend-part_down r c d M.lo x V.hi l h.above, blend-volume_up r c d x y V.hi l k.below)
+-- the lower end of the first interval and the upper end of the second where c is not above d, and else the other end of each
+pub record AreOpposite (c d : ℤ) (A B : Interval) (x y : ℤ) : Type 0 where
+  pub ordered : c ≤ℤ d → (x ≡ A.lo) × (y ≡ B.hi)
+  pub turned : d <ℤ c → (x ≡ A.hi) × (y ≡ B.lo)
 
--- and a mix, by which flow leads to the lesser
-pub mix_least-up : (r : Rounding) (c d : ℤ) (M N : Interval) (p : ℤ) → c ≤ℤ d → p ≡ mix r c d M.hi N.lo → (x y : ℤ) → Holds M x → Holds N y → p ≤ℤ mix r c d x y
-mix_least-up r c d M N p l e x y h k = omega (arith, ints, mix-first_flow_down r c d x M.hi N.lo l h.below, mix-second_flow_up r c d x N.lo y l k.above)
+-- there it is least, and where the second gives way it is greatest
+least-opposite : (c d : ℤ) (f : ℤ → ℤ → ℤ) → IsTurned c d f → (A B : Interval) (x y : ℤ) → AreOpposite c d A B x y → (u v : ℤ) → Holds A u → Holds B v → f x y ≤ℤ f u v
+least-opposite c d f t A B x y o u v h k =
+    by_lt_z d c
+    (λ l. let e = o.turned l in omega (arith, ints, ap (λ (z : ℤ). f z y) e.0, ap (f A.hi) e.1, t.first_down u A.hi B.lo (omega (arith, ints)) h.below, t.second_up u B.lo v (omega (arith, ints)) k.above))
+    (λ l. let e = o.ordered l in omega (arith, ints, ap (λ (z : ℤ). f z y) e.0, ap (f A.lo) e.1, t.first_up A.lo u B.hi l h.above, t.second_down u v B.hi l k.below))
 
-pub mix_least-down : (r : Rounding) (c d : ℤ) (M N : Interval) (p : ℤ) → d ≤ℤ c → p ≡ mix r c d M.lo N.hi → (x y : ℤ) → Holds M x → Holds N y → p ≤ℤ mix r c d x y
-mix_least-down r c d M N p l e x y h k = omega (arith, ints, mix-first_flow_up r c d M.lo x N.hi l h.above, mix-second_flow_down r c d x y N.hi l k.below)
+greatest-opposite : (c d : ℤ) (f : ℤ → ℤ → ℤ) → IsTurned c d f → (A B : Interval) (x y : ℤ) → AreOpposite c d B A y x → (u v : ℤ) → Holds A u → Holds B v → f u v ≤ℤ f x y
+greatest-opposite c d f t A B x y o u v h k =
+    by_lt_z d c
+    (λ l. let e = o.turned l in omega (arith, ints, ap (λ (z : ℤ). f z y) e.1, ap (f A.lo) e.0, t.first_down A.lo u B.hi (omega (arith, ints)) h.above, t.second_up u v B.hi (omega (arith, ints)) k.below))
+    (λ l. let e = o.ordered l in omega (arith, ints, ap (λ (z : ℤ). f z y) e.1, ap (f A.hi) e.0, t.first_up u A.hi B.lo l h.below, t.second_down u B.lo v l k.above))
 
-pub mix_greatest-up : (r : Rounding) (c d : ℤ) (M N : Interval) (p : ℤ) → c ≤ℤ d → p ≡ mix r c d M.lo N.hi → (x y : ℤ) → Holds M x → Holds N y → mix r c d x y ≤ℤ p
-mix_greatest-up r c d M N p l e x y h k = omega (arith, ints, mix-first_flow_down r c d M.lo x N.hi l h.above, mix-second_flow_up r c d x y N.hi l k.below)
+-- so the hull of what rises with its first two arguments and turns with them lies between two corners
+pub turned-corners : (f : ℤ → ℤ → ℤ → ℤ → ℤ) → ((a b d m v : ℤ) → a ≤ℤ b → f a d m v ≤ℤ f b d m v) → ((c a b m v : ℤ) → a ≤ℤ b → f c a m v ≤ℤ f c b m v) →
+    ((c d : ℤ) → IsTurned c d (f c d)) → (C D A B : Interval) (x y u v p q : ℤ) → IsBand C → IsBand D →
+    AreOpposite C.lo D.lo A B x y → Holds A x → Holds B y → AreOpposite C.hi D.hi B A v u → Holds A u → Holds B v →
+    p ≡ f C.lo D.lo x y → q ≡ f C.hi D.hi u v → IsHull (IsValue4 f C D A B) (record { lo = p; hi = q })
+turned-corners f first second turned C D A B x y u v p q c d o i j o' k l e g =
+    corners4 f first second C D A B p q c d
+    (x, i, (y, j, sym e)) (λ m w h n. omega (arith, ints, e, least-opposite C.lo D.lo (f C.lo D.lo) (turned C.lo D.lo) A B x y o m w h n))
+    (u, k, (v, l, sym g)) (λ m w h n. omega (arith, ints, g, greatest-opposite C.hi D.hi (f C.hi D.hi) (turned C.hi D.hi) A B u v o' m w h n))
 
-pub mix_greatest-down : (r : Rounding) (c d : ℤ) (M N : Interval) (p : ℤ) → d ≤ℤ c → p ≡ mix r c d M.hi N.lo → (x y : ℤ) → Holds M x → Holds N y → mix r c d x y ≤ℤ p
-mix_greatest-down r c d M N p l e x y h k = omega (arith, ints, mix-first_flow_up r c d x M.hi N.lo l h.below, mix-second_flow_down r c d x N.lo y l k.above)
+-- and the hull of an operation with two arguments exchanged is the same
+pub exchanged-hull : (f : ℤ → ℤ → ℤ → ℤ → ℤ) (C D M N R : Interval) → IsHull (IsValue4 (λ c d n m. f c d m n) C D N M) R → IsHull (IsValue4 f C D M N) R
+exchanged-hull f C D M N R h = record {
+  holds = λ z v. h.holds z (v.0, v.1, (v.2.0, v.2.1, (v.2.2.2.0, v.2.2.2.1, (v.2.2.0, v.2.2.1, v.2.2.2.2))));
+  low = let v = h.low in (v.0, v.1, (v.2.0, v.2.1, (v.2.2.2.0, v.2.2.2.1, (v.2.2.0, v.2.2.1, v.2.2.2.2))));
+  high = let v = h.high in (v.0, v.1, (v.2.0, v.2.1, (v.2.2.2.0, v.2.2.2.1, (v.2.2.0, v.2.2.1, v.2.2.2.2))));
+}
+
+-- what is picked by two numbers is picked by their equals
+pub picked-opposite : (x y c d : ℤ) (A B : Interval) (p q : ℤ) → x ≡ c → y ≡ d → AreOpposite x y A B p q → AreOpposite c d A B p q
+picked-opposite x y c d A B p q e g o =
+    subst (λ (t : ℤ). AreOpposite t d A B p q) e (subst (λ (t : ℤ). AreOpposite x t A B p q) g o)
 
 -- a gain is least and greatest at the ends, by the sign of its ppm
 pub gain-corners : (r : Rounding) (k : ℤ) (A : Interval) (x y p q : ℤ) → IsBand A → (pos 0 ≤ℤ k → x ≡ A.lo) → (k <ℤ pos 0 → x ≡ A.hi) →

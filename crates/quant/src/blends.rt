@@ -1,10 +1,11 @@
-ghost use Rattle.std.specs.Prelude.{◌≡◌, ℤ, ◌≤ℤ◌, pos};
-ghost use Rattle.quant.specs.Interval.{Interval, Holds, IsInside, around, join, point};
-ghost use Rattle.quant.specs.Hull.{hull4, IsHull, IsValue2, IsValue4};
+ghost use Rattle.std.specs.Prelude.{◌≡◌, pos};
+ghost use Rattle.quant.specs.Interval.{Holds, IsInside, around, join, point};
+ghost use Rattle.quant.specs.Hull.{hull4, IsHull, IsValue4};
 ghost use Rattle.quant.specs.Rounding.{Floor};
 ghost use Rattle.quant.specs.Operation.{blend, volumes};
 
 use crate::band::Band;
+use crate::ends::opposite_ends;
 use crate::quotients::floor_quotient;
 
 /// What a volume `v` at `c` becomes when `m` of it is replaced at `d`, rounded down:
@@ -31,38 +32,10 @@ pub fn blend_band(c: Band, d: Band, m: Band, v: Band) -> Band
     ensures exact { IsHull (IsValue4 (blend Floor) c d m v) result }
     ensures between { IsInside result (join c d) }
 {
+    let least = opposite_ends(c.lo, d.lo, m, v);
+    let greatest = opposite_ends(c.hi, d.hi, v, m);
     Band {
-        lo: least(c.lo, d.lo, m, v),
-        hi: greatest(c.hi, d.hi, m, v),
-    }
-}
-
-/// The least blend of these contents, with the part and the volume in bands.
-fn least(c: i64, d: i64, m: Band, v: Band) -> i64
-    requires old { Holds (around 10000000000000000) c }
-    requires added { Holds (around 10000000000000000) d }
-    requires volume { IsInside v volumes }
-    ensures found { IsValue2 (blend Floor c d) m v result }
-    ensures least { (x y : ℤ) → Holds m x → Holds v y → result ≤ℤ blend Floor c d x y }
-{
-    if d >= c {
-        blend(c, d, m.lo, v.hi)
-    } else {
-        blend(c, d, m.hi, v.lo)
-    }
-}
-
-/// The greatest blend of these contents, with the part and the volume in bands.
-fn greatest(c: i64, d: i64, m: Band, v: Band) -> i64
-    requires old { Holds (around 10000000000000000) c }
-    requires added { Holds (around 10000000000000000) d }
-    requires volume { IsInside v volumes }
-    ensures found { IsValue2 (blend Floor c d) m v result }
-    ensures greatest { (x y : ℤ) → Holds m x → Holds v y → blend Floor c d x y ≤ℤ result }
-{
-    if d >= c {
-        blend(c, d, m.hi, v.lo)
-    } else {
-        blend(c, d, m.lo, v.hi)
+        lo: blend(c.lo, d.lo, least.0, least.1),
+        hi: blend(c.hi, d.hi, greatest.1, greatest.0),
     }
 }

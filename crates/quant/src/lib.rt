@@ -3,6 +3,7 @@
 
 mod band;
 mod blends;
+mod ends;
 mod gains;
 mod instant;
 mod kind;

@@ -1,10 +1,11 @@
-ghost use Rattle.std.specs.Prelude.{◌≡◌, ℤ, ◌≤ℤ◌};
+ghost use Rattle.std.specs.Prelude.{◌≡◌};
 ghost use Rattle.quant.specs.Interval.{Holds, IsInside, around, join, point};
-ghost use Rattle.quant.specs.Hull.{hull4, IsHull, IsValue2, IsValue4};
+ghost use Rattle.quant.specs.Hull.{hull4, IsHull, IsValue4};
 ghost use Rattle.quant.specs.Rounding.{Floor};
 ghost use Rattle.quant.specs.Operation.{mix, flows};
 
 use crate::band::Band;
+use crate::ends::opposite_ends;
 use crate::quotients::floor_quotient;
 
 /// What a flow `m` at `c` and a flow `n` at `d` become together, rounded down: floor((c m + d n) / (m + n)), and `c` where
@@ -36,40 +37,10 @@ pub fn mix_band(c: Band, d: Band, m: Band, n: Band) -> Band
     ensures exact { IsHull (IsValue4 (mix Floor) c d m n) result }
     ensures between { IsInside result (join c d) }
 {
+    let least = opposite_ends(c.lo, d.lo, n, m);
+    let greatest = opposite_ends(c.hi, d.hi, m, n);
     Band {
-        lo: least(c.lo, d.lo, m, n),
-        hi: greatest(c.hi, d.hi, m, n),
-    }
-}
-
-/// The least mix of these contents, with the flows in bands.
-fn least(c: i64, d: i64, m: Band, n: Band) -> i64
-    requires first { Holds (around 10000000000000000) c }
-    requires second { Holds (around 10000000000000000) d }
-    requires first_flow { IsInside m flows }
-    requires second_flow { IsInside n flows }
-    ensures found { IsValue2 (mix Floor c d) m n result }
-    ensures least { (x y : ℤ) → Holds m x → Holds n y → result ≤ℤ mix Floor c d x y }
-{
-    if d >= c {
-        mix(c, d, m.hi, n.lo)
-    } else {
-        mix(c, d, m.lo, n.hi)
-    }
-}
-
-/// The greatest mix of these contents, with the flows in bands.
-fn greatest(c: i64, d: i64, m: Band, n: Band) -> i64
-    requires first { Holds (around 10000000000000000) c }
-    requires second { Holds (around 10000000000000000) d }
-    requires first_flow { IsInside m flows }
-    requires second_flow { IsInside n flows }
-    ensures found { IsValue2 (mix Floor c d) m n result }
-    ensures greatest { (x y : ℤ) → Holds m x → Holds n y → mix Floor c d x y ≤ℤ result }
-{
-    if d >= c {
-        mix(c, d, m.lo, n.hi)
-    } else {
-        mix(c, d, m.hi, n.lo)
+        lo: mix(c.lo, d.lo, least.1, least.0),
+        hi: mix(c.hi, d.hi, greatest.0, greatest.1),
     }
 }
