@@ -9,9 +9,5 @@ pub(crate) fn opposite_ends(c: i64, d: i64, a: Band, b: Band) -> (i64, i64)
     ensures turned { d <ℤ c → (result.0 ≡ a.hi) × (result.1 ≡ b.lo) }
     ensures inside { Holds a result.0 × Holds b result.1 }
 {
-    if c <= d {
-        (a.lo, b.hi)
-    } else {
-        (a.hi, b.lo)
-    }
+    if c <= d { (a.lo, b.hi) } else { (a.hi, b.lo) }
 }
