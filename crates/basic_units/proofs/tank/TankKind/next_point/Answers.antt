@@ -6,58 +6,60 @@ use Rattle.std.specs.Prelude.{slice_index_or}
 use Rattle.quant.specs.Rounding.{Floor}
 use Rattle.quant.specs.Operation.{share, keep, blend, clamp}
 use Rattle.quant.proofs.Calls.{filled, same_cons, given1, given2, given4}
-use Rattle.basic_units.proofs.Tanks.{volume-held, conc-held, temp-held, input-held}
+use Rattle.quant.proofs.Terms.{place-holds}
+use Rattle.basic_units.specs.Tank.{input_limits}
+use Rattle.basic_units.proofs.Vessels.{volume-held, conc-held, temp-held}
 use Rattle.basic_units.proofs.tank.TankKind.next_point.Goals as goal
 
 pub keep-requires : goal.keep-requires
 keep-requires c =
-    let h = volume-held c.args.self.now c.args.state.now c.requires.sound c.requires.states in
+    let h = volume-held c.args.self.now.limits c.args.state.now c.requires.sound.limits c.requires.states in
     record { above = omega (arith, ints); below = omega (arith, ints) }
 
 pub add-requires-clause-left : goal.add-requires-clause-left
 add-requires-clause-left c =
-    let h = volume-held c.args.self.now c.args.state.now c.requires.sound c.requires.states in
+    let h = volume-held c.args.self.now.limits c.args.state.now c.requires.sound.limits c.requires.states in
     let k = c.keep.ensures.between in
     record { above = omega (arith, ints, clamps); below = omega (arith, ints, clamps) }
 
 pub add-requires-clause-right : goal.add-requires-clause-right
 add-requires-clause-right c =
-    let h = input-held c.args.ins.now 0 c.requires.inputs in
+    let h = place-holds input_limits c.args.ins.now 0 c.requires.inputs in
     record { above = omega (arith, ints); below = omega (arith, ints) }
 
 pub share-requires : goal.share-requires
 share-requires c =
-    let h = volume-held c.args.self.now c.args.state.now c.requires.sound c.requires.states in
+    let h = volume-held c.args.self.now.limits c.args.state.now c.requires.sound.limits c.requires.states in
     record { above = omega (arith, ints); below = omega (arith, ints) }
 
 pub blend-requires-clause-old : goal.blend-requires-clause-old
 blend-requires-clause-old c =
-    let h = conc-held c.args.self.now c.args.state.now c.requires.sound c.requires.states in
+    let h = conc-held c.args.self.now.limits c.args.state.now c.requires.sound.limits c.requires.states in
     record { above = omega (arith, ints); below = omega (arith, ints) }
 
 pub blend-requires-clause-added : goal.blend-requires-clause-added
 blend-requires-clause-added c =
-    let h = input-held c.args.ins.now 1 c.requires.inputs in
+    let h = place-holds input_limits c.args.ins.now 1 c.requires.inputs in
     record { above = omega (arith, ints); below = omega (arith, ints) }
 
 pub blend-requires-clause-volume : goal.blend-requires-clause-volume
 blend-requires-clause-volume c =
-    let h = volume-held c.args.self.now c.args.state.now c.requires.sound c.requires.states in
+    let h = volume-held c.args.self.now.limits c.args.state.now c.requires.sound.limits c.requires.states in
     record { above = omega (arith, ints); below = omega (arith, ints) }
 
 pub blend-requires-2-clause-old : goal.blend-requires-2-clause-old
 blend-requires-2-clause-old c =
-    let h = temp-held c.args.self.now c.args.state.now c.requires.sound c.requires.states in
+    let h = temp-held c.args.self.now.limits c.args.state.now c.requires.sound.limits c.requires.states in
     record { above = omega (arith, ints); below = omega (arith, ints) }
 
 pub blend-requires-2-clause-added : goal.blend-requires-2-clause-added
 blend-requires-2-clause-added c =
-    let h = input-held c.args.ins.now 2 c.requires.inputs in
+    let h = place-holds input_limits c.args.ins.now 2 c.requires.inputs in
     record { above = omega (arith, ints); below = omega (arith, ints) }
 
 pub blend-requires-2-clause-volume : goal.blend-requires-2-clause-volume
 blend-requires-2-clause-volume c =
-    let h = volume-held c.args.self.now c.args.state.now c.requires.sound c.requires.states in
+    let h = volume-held c.args.self.now.limits c.args.state.now c.requires.sound.limits c.requires.states in
     record { above = omega (arith, ints); below = omega (arith, ints) }
 
 pub returns : goal.returns
