@@ -196,3 +196,27 @@ returns c =
     (same_cons _ _ _ _ (c.clamp_band-2.ensures.hull ∙ ap (hull1 (clamp reactor.limits.flow)) out)
     (same_cons _ _ _ _ (c.clamp_band-3.ensures.hull ∙ ap (hull1 (clamp reactor.limits.conc)) stays)
     (same_cons _ _ _ _ (c.clamp_band-4.ensures.hull ∙ ap (hull1 (clamp reactor.limits.temp)) jacketed) refl)))
+
+pub add_band-heated-requires-clause-right : goal.add_band-heated-requires-clause-right
+add_band-heated-requires-clause-right c = search rules
+
+pub blend_band-jacketed-requires-clause-volume : goal.blend_band-jacketed-requires-clause-volume
+blend_band-jacketed-requires-clause-volume c = search rules
+
+pub bounds-new-0 : goal.bounds-new-0
+bounds-new-0 c = search rules
+
+pub bounds-new-1 : goal.bounds-new-1
+bounds-new-1 c = search rules
+
+pub bounds-new-2 : goal.bounds-new-2
+bounds-new-2 c = search rules
+
+pub bounds-new-3 : goal.bounds-new-3
+bounds-new-3 c = search rules
+
+pub gain_band-requires-clause-ppm : goal.gain_band-requires-clause-ppm
+gain_band-requires-clause-ppm c = search rules
+
+pub share_band-drained-requires : goal.share_band-drained-requires
+share_band-drained-requires c = search rules

@@ -128,3 +128,18 @@ returns c =
     (same_cons _ _ _ _ (c.clamp_band-2.ensures.hull ∙ ap (hull1 (clamp tank.limits.flow)) out)
     (same_cons _ _ _ _ (c.clamp_band-3.ensures.hull ∙ ap (hull1 (clamp tank.limits.conc)) mixed)
     (same_cons _ _ _ _ (c.clamp_band-4.ensures.hull ∙ ap (hull1 (clamp tank.limits.temp)) warmed) refl)))
+
+pub bounds-new-0 : goal.bounds-new-0
+bounds-new-0 c = search rules
+
+pub bounds-new-1 : goal.bounds-new-1
+bounds-new-1 c = search rules
+
+pub bounds-new-2 : goal.bounds-new-2
+bounds-new-2 c = search rules
+
+pub bounds-new-3 : goal.bounds-new-3
+bounds-new-3 c = search rules
+
+pub share_band-drained-requires : goal.share_band-drained-requires
+share_band-drained-requires c = search rules

@@ -97,3 +97,63 @@ returns c =
     (same_cons _ _ _ _ (given1 (clamp tank.limits.flow) _ _ _ (search rules) c.clamp-2.ensures.value out)
     (same_cons _ _ _ _ (given1 (clamp tank.limits.conc) _ _ _ (search rules) c.clamp-3.ensures.value mixed)
     (same_cons _ _ _ _ (given1 (clamp tank.limits.temp) _ _ _ (search rules) c.clamp-4.ensures.value warmed) refl)))
+
+pub bounds-ins-0 : goal.bounds-ins-0
+bounds-ins-0 c = search rules
+
+pub bounds-ins-0-2 : goal.bounds-ins-0-2
+bounds-ins-0-2 c = search rules
+
+pub bounds-ins-0-3 : goal.bounds-ins-0-3
+bounds-ins-0-3 c = search rules
+
+pub bounds-ins-1 : goal.bounds-ins-1
+bounds-ins-1 c = search rules
+
+pub bounds-ins-2 : goal.bounds-ins-2
+bounds-ins-2 c = search rules
+
+pub bounds-ins-3 : goal.bounds-ins-3
+bounds-ins-3 c = search rules
+
+pub bounds-new-0 : goal.bounds-new-0
+bounds-new-0 c = search rules
+
+pub bounds-new-1 : goal.bounds-new-1
+bounds-new-1 c = search rules
+
+pub bounds-new-2 : goal.bounds-new-2
+bounds-new-2 c = search rules
+
+pub bounds-new-3 : goal.bounds-new-3
+bounds-new-3 c = search rules
+
+pub bounds-state-0 : goal.bounds-state-0
+bounds-state-0 c = search rules
+
+pub bounds-state-0-2 : goal.bounds-state-0-2
+bounds-state-0-2 c = search rules
+
+pub bounds-state-0-3 : goal.bounds-state-0-3
+bounds-state-0-3 c = search rules
+
+pub bounds-state-0-4 : goal.bounds-state-0-4
+bounds-state-0-4 c = search rules
+
+pub bounds-state-2 : goal.bounds-state-2
+bounds-state-2 c = search rules
+
+pub bounds-state-3 : goal.bounds-state-3
+bounds-state-3 c = search rules
+
+pub share-drained-requires : goal.share-drained-requires
+share-drained-requires c = search rules
+
+pub the-fitted-add-requires-clause-left : goal.the-fitted-add-requires-clause-left
+the-fitted-add-requires-clause-left c = search rules
+
+pub the-fitted-blend-requires-clause-added : goal.the-fitted-blend-requires-clause-added
+the-fitted-blend-requires-clause-added c = search rules
+
+pub the-fitted-blend-requires-clause-old : goal.the-fitted-blend-requires-clause-old
+the-fitted-blend-requires-clause-old c = search rules
