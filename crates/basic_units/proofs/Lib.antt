@@ -1,3 +1,3 @@
 pub mod Mixers
 pub mod Reactors
-pub mod Tanks
+pub mod Vessels

@@ -1,54 +1,13 @@
--- What the rows of a reactor hold, and how much a reaction heats.
-use Rattle.std.proofs.Common.{◌≡◌, ℕ, ◌<◌, ℤ, pos, neg_ℤ, ◌+ℤ◌, ◌*ℤ◌, ◌≤ℤ◌, to_z, of_z, List, get_or, sym, subst, ap, arith}
+-- How much a reaction heats, and where the contents of a reactor lie.
+use Rattle.std.proofs.Common.{◌≡◌, ℤ, pos, neg_ℤ, ◌+ℤ◌, ◌*ℤ◌, ◌≤ℤ◌, to_z, of_z, sym, subst, ap, arith}
 use Rattle.std.proofs.lemmas.Int.{ints, clamps}
 use Rattle.std.specs.Int.{w64}
-use Rattle.std.specs.Prelude.{slice_index_or}
-use Rattle.quant.specs.Interval.{Interval, Holds, IsBand, IsInside, AllHold, AllInside, around, join, wide, point}
-use Rattle.quant.specs.Limits.{wide_from}
+use Rattle.quant.specs.Interval.{Interval, Holds, IsBand, IsInside, around, join, wide, point}
 use Rattle.quant.specs.Hull.{hull1, hull2}
 use Rattle.quant.specs.Rounding.{Rounding, Floor, divisor}
 use Rattle.quant.specs.Operation.{million, gain}
-use Rattle.quant.proofs.Calls.{place-held, inside-trans, inside-length, read-inside}
 use Rattle.quant.proofs.Casts.{product-around}
 use Rattle.quant.proofs.Division.{quotient-rises, quotient-exact}
-use Rattle.quant.proofs.Terms.{place-holds, place-inside}
-use Rattle.basic_units.specs.declared.reactor.Reactor.{Reactor}
-use Rattle.basic_units.specs.Reactor.{IsSound, state_limits, input_limits}
-
--- its numbers lie where its limits may
-pub volume-held : (reactor : Reactor) (state : List ℤ) → IsSound reactor → AllHold (state_limits reactor) state → Holds (wide_from (pos 1)) (slice_index_or state 0 (pos 0))
-volume-held reactor state sound h = place-held (state_limits reactor) state 0 (wide_from (pos 1)) h sound.limits.volume.1
-
-pub conc-held : (reactor : Reactor) (state : List ℤ) → IsSound reactor → AllHold (state_limits reactor) state → Holds wide (slice_index_or state 2 (pos 0))
-conc-held reactor state sound h = place-held (state_limits reactor) state 2 wide h sound.limits.conc.1
-
-pub temp-held : (reactor : Reactor) (state : List ℤ) → IsSound reactor → AllHold (state_limits reactor) state → Holds wide (slice_index_or state 3 (pos 0))
-temp-held reactor state sound h = place-held (state_limits reactor) state 3 wide h sound.limits.temp.1
-
-pub input-held : (ins : List ℤ) (n : ℕ) → AllHold input_limits ins → Holds (slice_index_or input_limits n (point (pos 0))) (slice_index_or ins n (pos 0))
-input-held ins n h = place-holds input_limits ins n h
-
--- its bands lie there, as they are read
-pub volume-inside : (reactor : Reactor) (states : List Interval) (r : Interval) → IsSound reactor → AllInside states (state_limits reactor) → r ≡ get_or states 0 r → IsInside r (wide_from (pos 1))
-volume-inside reactor states r sound h e =
-    let l = inside-length states (state_limits reactor) h in
-    read-inside states 0 r (wide_from (pos 1)) (omega arith) e (inside-trans _ reactor.limits.volume _ (place-inside states (state_limits reactor) 0 h) sound.limits.volume.1)
-
-pub conc-inside : (reactor : Reactor) (states : List Interval) (r : Interval) → IsSound reactor → AllInside states (state_limits reactor) → r ≡ get_or states 2 r → IsInside r wide
-conc-inside reactor states r sound h e =
-    let l = inside-length states (state_limits reactor) h in
-    read-inside states 2 r wide (omega arith) e (inside-trans _ reactor.limits.conc _ (place-inside states (state_limits reactor) 2 h) sound.limits.conc.1)
-
-pub temp-inside : (reactor : Reactor) (states : List Interval) (r : Interval) → IsSound reactor → AllInside states (state_limits reactor) → r ≡ get_or states 3 r → IsInside r wide
-temp-inside reactor states r sound h e =
-    let l = inside-length states (state_limits reactor) h in
-    read-inside states 3 r wide (omega arith) e (inside-trans _ reactor.limits.temp _ (place-inside states (state_limits reactor) 3 h) sound.limits.temp.1)
-
-pub input-inside : (ins : List Interval) (n : ℕ) (r : Interval) → AllInside ins input_limits → n < 5 → r ≡ get_or ins n r →
-    IsInside r (slice_index_or input_limits n (point (pos 0)))
-input-inside ins n r h b e =
-    let l = inside-length ins input_limits h in
-    read-inside ins n r _ (omega arith) e (place-inside ins input_limits n h)
 
 -- what heats, of a conc in the limits
 pub heats : (r : Rounding) (k a : ℤ) → Holds wide a → Holds (around 1000000000) k → Holds (around 1000000000000000) (gain r k a)

@@ -4,7 +4,7 @@ use Rattle.quant.specs.Interval.{Interval, Holds, around, wide}
 use Rattle.quant.specs.Operation.{million}
 use Rattle.quant.specs.Limits.{AreLimits, wide_from}
 use Rattle.quant.specs.Term.{Term, input, number, sum, share_of, rest_of, gain_of, blend_of, lookup_of, clamped}
-use Rattle.basic_units.specs.Tank.{volume, flow, conc, temp, in_flow, in_conc, in_temp, valve}
+use Rattle.basic_units.specs.Tank.{volume, flow, conc, temp, in_flow, in_conc, in_temp, valve, vessel_limits}
 use Rattle.basic_units.specs.declared.reactor.Reactor.{Reactor}
 
 -- its states and first four inputs are those of a tank; its last input is the temperature of the jacket
@@ -43,7 +43,7 @@ view_terms reactor =
     (flow ∷ conc ∷ temp ∷ []) ∷ (clamped reactor.limits.signal volume ∷ []) ∷ (clamped reactor.limits.signal temp ∷ []) ∷ []
 
 abbrev pub state_limits : Reactor → List Interval
-state_limits reactor = reactor.limits.volume ∷ reactor.limits.flow ∷ reactor.limits.conc ∷ reactor.limits.temp ∷ []
+state_limits reactor = vessel_limits reactor.limits
 
 abbrev pub output_limits : Reactor → List (List Interval)
 output_limits reactor =

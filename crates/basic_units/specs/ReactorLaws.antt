@@ -6,7 +6,7 @@ use Rattle.quant.specs.Term.{intervals}
 use Rattle.quant.proofs.Calls.{clamped-inside}
 use Rattle.quant.proofs.Terms.{place-inside}
 use Rattle.basic_units.specs.declared.reactor.Reactor.{Reactor}
-use Rattle.basic_units.specs.Tank.{outputs}
+use Rattle.quant.specs.Ports.{outputs}
 use Rattle.basic_units.specs.Reactor.{IsSound, next_terms, view_terms, state_limits, output_limits}
 
 -- each state is clamped by its limits

@@ -5,7 +5,7 @@ use Rattle.quant.specs.Rounding.{Floor}
 use Rattle.quant.specs.Term.{intervals}
 use Rattle.quant.proofs.Calls.{clamped-inside}
 use Rattle.basic_units.specs.declared.splitter.Splitter.{Splitter}
-use Rattle.basic_units.specs.Tank.{outputs}
+use Rattle.quant.specs.Ports.{outputs}
 use Rattle.basic_units.specs.Splitter.{IsSound, now_terms, output_limits}
 
 -- each channel is clamped by its limits

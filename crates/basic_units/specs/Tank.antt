@@ -1,5 +1,6 @@
 -- The equations of a tank, and what it may be given.
-use Rattle.std.specs.Prelude.{pos, List, [], ◌∷◌, flat_map}
+use Rattle.std.specs.Prelude.{pos, List, [], ◌∷◌}
+use Rattle.quant.specs.declared.limits.Limits.{Limits}
 use Rattle.quant.specs.Interval.{Interval, Holds, wide}
 use Rattle.quant.specs.Operation.{million}
 use Rattle.quant.specs.Limits.{AreLimits, wide_from}
@@ -50,8 +51,12 @@ next_terms tank =
 abbrev pub view_terms : Tank → List (List Term)
 view_terms tank = (flow ∷ conc ∷ temp ∷ []) ∷ (clamped tank.limits.signal volume ∷ []) ∷ []
 
+-- the limits of the states
+abbrev pub vessel_limits : Limits → List Interval
+vessel_limits limits = limits.volume ∷ limits.flow ∷ limits.conc ∷ limits.temp ∷ []
+
 abbrev pub state_limits : Tank → List Interval
-state_limits tank = tank.limits.volume ∷ tank.limits.flow ∷ tank.limits.conc ∷ tank.limits.temp ∷ []
+state_limits tank = vessel_limits tank.limits
 
 abbrev pub output_limits : Tank → List (List Interval)
 output_limits tank = (tank.limits.flow ∷ tank.limits.conc ∷ tank.limits.temp ∷ []) ∷ (tank.limits.signal ∷ []) ∷ []
@@ -64,7 +69,3 @@ input_limits = wide_from (pos 0) ∷ wide ∷ wide ∷ wide ∷ []
 pub record IsSound (tank : Tank) : Type 0 where
   pub k : Holds (record { lo = pos 0; hi = million }) tank.k
   pub limits : AreLimits tank.limits
-
--- the channels of its outputs, one output after another
-abbrev pub outputs : {A : Type 0} → List (List A) → List A
-outputs ports = flat_map (λ channels. channels) ports

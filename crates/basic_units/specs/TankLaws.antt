@@ -2,11 +2,12 @@
 use Rattle.std.specs.Prelude.{List, []}
 use Rattle.quant.specs.Interval.{Interval, AllBands, AllInside}
 use Rattle.quant.specs.Rounding.{Floor}
+use Rattle.quant.specs.Ports.{outputs}
 use Rattle.quant.specs.Term.{intervals}
 use Rattle.quant.proofs.Calls.{clamped-inside}
 use Rattle.quant.proofs.Terms.{place-inside}
 use Rattle.basic_units.specs.declared.tank.Tank.{Tank}
-use Rattle.basic_units.specs.Tank.{IsSound, next_terms, view_terms, state_limits, output_limits, outputs}
+use Rattle.basic_units.specs.Tank.{IsSound, next_terms, view_terms, state_limits, output_limits}
 
 -- each state is clamped by its limits
 pub next-limited : (tank : Tank) (states inputs : List Interval) → IsSound tank →

@@ -18,7 +18,7 @@ impl Instant for Mixer {
     ghost use Rattle.quant.specs.Rounding.{Floor};
     ghost use Rattle.quant.specs.Term.{values, intervals};
     ghost use Rattle.quant.proofs.Terms.{intervals-hold, intervals-inside, intervals-points};
-    ghost use Rattle.basic_units.specs.Tank.{outputs};
+    ghost use Rattle.quant.specs.Ports.{outputs};
     ghost use Rattle.basic_units.specs.Mixer.{IsSound, now_terms, output_limits, streams};
     ghost use Rattle.basic_units.specs.MixerLaws.{now-limited};
 

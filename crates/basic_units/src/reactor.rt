@@ -28,7 +28,7 @@ impl Kind for Reactor {
     ghost use Rattle.quant.specs.Rounding.{Floor};
     ghost use Rattle.quant.specs.Term.{values, intervals};
     ghost use Rattle.quant.proofs.Terms.{intervals-hold, intervals-inside, intervals-points};
-    ghost use Rattle.basic_units.specs.Tank.{outputs};
+    ghost use Rattle.quant.specs.Ports.{outputs};
     ghost use Rattle.basic_units.specs.Reactor.{IsSound, next_terms, view_terms, state_limits, output_limits, input_limits};
     ghost use Rattle.basic_units.specs.ReactorLaws.{next-limited, view-limited};
 

@@ -17,7 +17,7 @@ impl Instant for Splitter {
     ghost use Rattle.quant.specs.Rounding.{Floor};
     ghost use Rattle.quant.specs.Term.{values, intervals};
     ghost use Rattle.quant.proofs.Terms.{intervals-hold, intervals-inside, intervals-points};
-    ghost use Rattle.basic_units.specs.Tank.{outputs};
+    ghost use Rattle.quant.specs.Ports.{outputs};
     ghost use Rattle.basic_units.specs.Splitter.{IsSound, now_terms, output_limits, input_limits};
     ghost use Rattle.basic_units.specs.SplitterLaws.{now-limited};
 

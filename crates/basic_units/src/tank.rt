@@ -19,9 +19,10 @@ impl Kind for Tank {
     ghost use Rattle.std.specs.Prelude.{◌≡◌, [], flat_map};
     ghost use Rattle.quant.specs.Interval.{AllHold, AllInside};
     ghost use Rattle.quant.specs.Rounding.{Floor};
+    ghost use Rattle.quant.specs.Ports.{outputs};
     ghost use Rattle.quant.specs.Term.{values, intervals};
     ghost use Rattle.quant.proofs.Terms.{intervals-hold, intervals-inside, intervals-points};
-    ghost use Rattle.basic_units.specs.Tank.{IsSound, next_terms, view_terms, state_limits, output_limits, input_limits, outputs};
+    ghost use Rattle.basic_units.specs.Tank.{IsSound, next_terms, view_terms, state_limits, output_limits, input_limits};
     ghost use Rattle.basic_units.specs.TankLaws.{next-limited, view-limited};
 
     ghost is_sound = { IsSound };

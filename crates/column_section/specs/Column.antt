@@ -1,5 +1,5 @@
 -- The equations of a column section, and what it may be given.
-use Rattle.std.specs.Prelude.{ℕ, zero, suc, ◌+◌, ◌-◌, ◌≤◌, nat_lt, if◌then◌else◌, ℤ, pos, List, [], ◌∷◌, ◌++◌, map, flat_map, slice_index_or}
+use Rattle.std.specs.Prelude.{ℕ, zero, suc, ◌+◌, ◌-◌, ◌≤◌, nat_lt, if◌then◌else◌, ℤ, pos, List, [], ◌∷◌, ◌++◌, map, slice_index_or}
 use Rattle.std.specs.List.{range_with_len}
 use Rattle.quant.specs.Interval.{Interval, Holds, AllHold, AllInside, point, wide}
 use Rattle.quant.specs.Operation.{holdups, slopes, IsDrainable}
@@ -57,10 +57,6 @@ abbrev pub view_terms : Column → List (List Term)
 view_terms column =
     (state column.stages ∷ state (column.stages - 1) ∷ state (column.stages + 1) ∷ [])
     ∷ (state (column.stages + 2) ∷ clamped column.limits.conc (gain_of column.slope (state 0)) ∷ state (column.stages + 3) ∷ []) ∷ []
-
--- the channels of its outputs, one output after another
-abbrev pub outputs : {A : Type 0} → List (List A) → List A
-outputs ports = flat_map (λ channels. channels) ports
 
 abbrev pub register_limits : Column → List Interval
 register_limits column = column.limits.flow ∷ column.limits.temp ∷ column.limits.flow ∷ column.limits.temp ∷ []

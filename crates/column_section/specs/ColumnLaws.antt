@@ -5,11 +5,12 @@ use Rattle.std.proofs.lemmas.List.FromFn.{length-range_with_len}
 use Rattle.std.specs.Prelude.{slice_index_or}
 use Rattle.quant.specs.Interval.{Interval, AllBands, AllInside, IsInside, point}
 use Rattle.quant.specs.Rounding.{Floor}
+use Rattle.quant.specs.Ports.{outputs}
 use Rattle.quant.specs.Term.{interval, intervals}
 use Rattle.quant.proofs.Calls.{clamped-inside}
 use Rattle.quant.proofs.Terms.{place-inside}
 use Rattle.column_section.specs.declared.column.Column.{Column}
-use Rattle.column_section.specs.Column.{IsSound, stages_of, stage, registers, next_terms, view_terms, state_limits, register_limits, output_limits, outputs}
+use Rattle.column_section.specs.Column.{IsSound, stages_of, stage, registers, next_terms, view_terms, state_limits, register_limits, output_limits}
 
 -- intervals one after another
 inside-append : (As Bs Cs Ds : List Interval) → AllInside As Bs → AllInside Cs Ds → AllInside (As ++ Cs) (Bs ++ Ds)

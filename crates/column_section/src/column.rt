@@ -26,9 +26,10 @@ pub struct Column {
 impl Kind for Column {
     ghost use Rattle.std.specs.Prelude.{◌≡◌, []};
     ghost use Rattle.quant.specs.Rounding.{Floor};
+    ghost use Rattle.quant.specs.Ports.{outputs};
     ghost use Rattle.quant.specs.Term.{values, intervals};
     ghost use Rattle.quant.proofs.Terms.{intervals-hold, intervals-inside, intervals-points};
-    ghost use Rattle.column_section.specs.Column.{IsSound, MayTake, MayTakeBands, next_terms, view_terms, state_limits, output_limits, outputs};
+    ghost use Rattle.column_section.specs.Column.{IsSound, MayTake, MayTakeBands, next_terms, view_terms, state_limits, output_limits};
     ghost use Rattle.column_section.specs.ColumnLaws.{next-limited, view-limited};
 
     ghost is_sound = { IsSound };

@@ -9,7 +9,7 @@ use Rattle.quant.specs.Interval.{Interval, AllInside}
 use Rattle.quant.specs.Rounding.{Floor}
 use Rattle.quant.specs.Term.{interval, intervals}
 use Rattle.quant.proofs.Calls.{inside-length}
-use Rattle.basic_units.specs.Tank.{outputs}
+use Rattle.quant.specs.Ports.{outputs}
 use Rattle.flowsheet.specs.Plant as sheet
 use Rattle.flowsheet.specs.Reading.{shown, on_bands, inputs_of}
 use Rattle.parts.specs.Parts.{FileParts}

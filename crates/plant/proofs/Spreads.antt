@@ -8,7 +8,7 @@ use borrow.Rule.Slice.PartMut.{put_mid}
 use Rattle.std.specs.List.{AllByRecursion}
 use Rattle.std.specs.Prelude.{slice_index, slice_index_or}
 use Rattle.quant.specs.Interval.{Interval}
-use Rattle.basic_units.specs.Tank.{outputs}
+use Rattle.quant.specs.Ports.{outputs}
 use Rattle.plant.specs.Steps.{bands_at, gathered, spread, HasRoom}
 
 -- what is left to spread gives what all of it gives

@@ -4,6 +4,7 @@ use Rattle.std.proofs.lemmas.List.{map-append, length-map}
 use Rattle.quant.specs.Interval.{Interval, AllBands, AllInside}
 use Rattle.quant.specs.Rounding.{Floor}
 use Rattle.quant.specs.Term.{Term, interval}
+use Rattle.quant.specs.Ports.{outputs}
 use Rattle.basic_units.specs.Tank as tanks
 use Rattle.basic_units.specs.Reactor as reactors
 use Rattle.basic_units.specs.Mixer as mixers
@@ -45,15 +46,15 @@ first-apart read view more Bs Ds e h =
 
 each-output : (read : Term → Interval) (views : List (List Term)) (limits : List (List Interval)) (p : ℕ) →
     AreAlike views limits →
-    AllInside (map read (tanks.outputs views)) (tanks.outputs limits) →
+    AllInside (map read (outputs views)) (outputs limits) →
     AllInside (map read (slice_index_or views p [])) (slice_index_or limits p [])
 each-output read [] [] p e h = tt
 each-output read [] (own ∷ limits) p e h = absurd e
 each-output read (view ∷ views) [] p e h = absurd e
 each-output read (view ∷ views) (own ∷ limits) zero e h =
-    (first-apart read view (tanks.outputs views) own (tanks.outputs limits) e.0 h).0
+    (first-apart read view (outputs views) own (outputs limits) e.0 h).0
 each-output read (view ∷ views) (own ∷ limits) (suc p) e h =
-    each-output read views limits p e.1 (first-apart read view (tanks.outputs views) own (tanks.outputs limits) e.0 h).1
+    each-output read views limits p e.1 (first-apart read view (outputs views) own (outputs limits) e.0 h).1
 
 -- what a unit shows lies in the limits of its outputs
 unit-shows : (x : Unit) → IsUnitSound x → (p : ℕ) (states inputs : List Interval) → AllBands states →

@@ -4,7 +4,7 @@ use Rattle.std.specs.List.{AllByRecursion}
 use Rattle.quant.specs.Interval.{Interval, AllInside}
 use Rattle.quant.specs.Rounding.{Floor}
 use Rattle.quant.specs.Term.{intervals}
-use Rattle.basic_units.specs.Tank.{outputs}
+use Rattle.quant.specs.Ports.{outputs}
 use Rattle.flowsheet.specs.Plant.{unit_at}
 use Rattle.flowsheet.specs.Reading.{on_bands, inputs_of, shown, stepped}
 use Rattle.flowsheet.specs.Run.{streams_at}

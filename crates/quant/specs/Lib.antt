@@ -5,3 +5,4 @@ pub mod Operation
 pub mod Table
 pub mod Term
 pub mod Limits
+pub mod Ports

@@ -70,3 +70,15 @@ blend-requires-2-clause-added c =
     let low = ap (λ (A : Interval). A.lo) c.d.view_is in
     let high = ap (λ (A : Interval). A.hi) c.d.view_is in
     record { above = omega (arith, ints); below = omega (arith, ints) }
+
+pub blend-requires-clause-old : goal.blend-requires-clause-old
+blend-requires-clause-old c = search rules
+
+pub blend-requires-clause-added : goal.blend-requires-clause-added
+blend-requires-clause-added c = search rules
+
+pub blend-requires-clause-volume : goal.blend-requires-clause-volume
+blend-requires-clause-volume c = search rules
+
+pub blend-requires-2-clause-volume : goal.blend-requires-2-clause-volume
+blend-requires-2-clause-volume c = search rules

@@ -1,4 +1,4 @@
-use Rattle.std.proofs.Common.{◌≡◌, pos, ◌+ℤ◌, ◌-◌, ◌+◌, to_z, of_z, get_or, drop, ap, ◌∙◌, subst, arith}
+use Rattle.std.proofs.Common.{rules, ◌≡◌, pos, ◌+ℤ◌, ◌-◌, ◌+◌, to_z, of_z, get_or, drop, ap, ◌∙◌, subst, arith}
 use Rattle.std.proofs.lemmas.Int.{ints, to_z-of_z}
 use Rattle.std.proofs.lemmas.List.Elements.{All-get_or}
 use Rattle.std.specs.Int.{w64}
@@ -53,3 +53,27 @@ returns-clause-value c =
 
 pub returns-clause-rate : goal.returns-clause-rate
 returns-clause-rate c = (ended c).1
+
+pub bounds-points-0 : goal.bounds-points-0
+bounds-points-0 c = search rules
+
+pub overflow_sub-i : goal.overflow_sub-i
+overflow_sub-i c = search rules
+
+pub offset_bounds-points-i : goal.offset_bounds-points-i
+offset_bounds-points-i c = search rules
+
+pub bounds-points-i : goal.bounds-points-i
+bounds-points-i c = search rules
+
+pub offset_bounds-points-i-in-loop-i : goal.offset_bounds-points-i-in-loop-i
+offset_bounds-points-i-in-loop-i c = search rules
+
+pub bounds-points-i-in-loop-i : goal.bounds-points-i-in-loop-i
+bounds-points-i-in-loop-i c = search rules
+
+pub passed-rate-requires-clause-from : goal.passed-rate-requires-clause-from
+passed-rate-requires-clause-from c = search rules
+
+pub passed-rate-requires-clause-to : goal.passed-rate-requires-clause-to
+passed-rate-requires-clause-to c = search rules

@@ -1,4 +1,4 @@
-use Rattle.std.proofs.Common.{◌≡◌, pos, ◌+ℤ◌, ◌*ℤ◌, ℤ, ◌≤ℤ◌, to_z, of_z, sym, ◌∙◌, ap, subst, arith}
+use Rattle.std.proofs.Common.{rules, ◌≡◌, pos, ◌+ℤ◌, ◌*ℤ◌, ℤ, ◌≤ℤ◌, to_z, of_z, sym, ◌∙◌, ap, subst, arith}
 use Rattle.std.proofs.lemmas.Int.{ints, clamps, to_z-of_z}
 use Rattle.std.specs.Int.{w64, w128}
 use Rattle.quant.specs.Interval.{Holds, around, join, point}
@@ -76,3 +76,18 @@ returns-clause-value c = let e = c.floor_quotient.ensures ∙ mixed c.before in 
 
 pub returns-clause-between : goal.returns-clause-between
 returns-clause-between c = subst (λ (z : ℤ). Holds (join (point c.args.c) (point c.args.d)) z) (sym (returns-clause-value c)) (mix-between Floor c.args.c c.args.d c.args.m c.args.n)
+
+pub overflow_add-both : goal.overflow_add-both
+overflow_add-both c = search rules
+
+pub returns-then-both-eq0-clause-between : goal.returns-then-both-eq0-clause-between
+returns-then-both-eq0-clause-between c = search rules
+
+pub overflow_mul-weighed : goal.overflow_mul-weighed
+overflow_mul-weighed c = search rules
+
+pub overflow_mul-weighed-2 : goal.overflow_mul-weighed-2
+overflow_mul-weighed-2 c = search rules
+
+pub floor_quotient-requires-clause-positive : goal.floor_quotient-requires-clause-positive
+floor_quotient-requires-clause-positive c = search rules

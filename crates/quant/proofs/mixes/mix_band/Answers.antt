@@ -71,3 +71,21 @@ mix-requires-2-clause-second c =
     let low = ap (λ (A : Interval). A.lo) c.d.view_is in
     let high = ap (λ (A : Interval). A.hi) c.d.view_is in
     record { above = omega (arith, ints); below = omega (arith, ints) }
+
+pub mix-requires-clause-first : goal.mix-requires-clause-first
+mix-requires-clause-first c = search rules
+
+pub mix-requires-clause-second : goal.mix-requires-clause-second
+mix-requires-clause-second c = search rules
+
+pub mix-requires-clause-first_flow : goal.mix-requires-clause-first_flow
+mix-requires-clause-first_flow c = search rules
+
+pub mix-requires-clause-second_flow : goal.mix-requires-clause-second_flow
+mix-requires-clause-second_flow c = search rules
+
+pub mix-requires-2-clause-first_flow : goal.mix-requires-2-clause-first_flow
+mix-requires-2-clause-first_flow c = search rules
+
+pub mix-requires-2-clause-second_flow : goal.mix-requires-2-clause-second_flow
+mix-requires-2-clause-second_flow c = search rules

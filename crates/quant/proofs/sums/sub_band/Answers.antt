@@ -1,5 +1,5 @@
 -- The least difference takes the greatest number from the least, the greatest the least from the greatest.
-use Rattle.std.proofs.Common.{◌-ℤ◌, arith}
+use Rattle.std.proofs.Common.{rules, ◌-ℤ◌, arith}
 use Rattle.std.proofs.lemmas.Int.{ints}
 use Rattle.quant.specs.Interval.{IsBand}
 use Rattle.quant.specs.Hull.{hull2, IsValue2}
@@ -29,3 +29,9 @@ returns-clause-exact c =
     let b : IsBand c.args.b = record { ordered = omega (arith, ints) } in
     exact_of (IsValue2 ◌-ℤ◌ c.args.a c.args.b) _ (hull2 ◌-ℤ◌ c.args.a c.args.b) (returns-clause-hull c)
     (hull2-exact ◌-ℤ◌ c.args.a c.args.b a b difference-monotone)
+
+pub overflow_sub-result : goal.overflow_sub-result
+overflow_sub-result c = search rules
+
+pub overflow_sub-result-2 : goal.overflow_sub-result-2
+overflow_sub-result-2 c = search rules

@@ -1,4 +1,4 @@
-use Rattle.std.proofs.Common.{◌≡◌, ◌*ℤ◌, to_z, of_z, sym, subst, arith}
+use Rattle.std.proofs.Common.{rules, ◌≡◌, ◌*ℤ◌, to_z, of_z, sym, subst, arith}
 use Rattle.std.proofs.lemmas.Int.{ints, to_z-of_z}
 use Rattle.std.specs.Int.{w64}
 use Rattle.quant.specs.Interval.{Holds}
@@ -27,3 +27,12 @@ pub returns-clause-size : goal.returns-clause-size
 returns-clause-size c =
     subst (Holds weights) (sym (returns-clause-value c))
     (kept-weighs c.args.holdup c.args.slope c.args.l c.args.v c.requires.holdup c.requires.slope c.requires.liquid c.requires.vapour c.requires.drainable)
+
+pub overflow_mul-result : goal.overflow_mul-result
+overflow_mul-result c = search rules
+
+pub overflow_mul-result-2 : goal.overflow_mul-result-2
+overflow_mul-result-2 c = search rules
+
+pub overflow_mul-result-3 : goal.overflow_mul-result-3
+overflow_mul-result-3 c = search rules

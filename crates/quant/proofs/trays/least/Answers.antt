@@ -81,3 +81,18 @@ returns-clause-found c = (least c).0
 
 pub returns-clause-least : goal.returns-clause-least
 returns-clause-least c = λ a b h k. (least c).1 a b h k
+
+pub tray-requires-clause-own : goal.tray-requires-clause-own
+tray-requires-clause-own c = search rules
+
+pub tray-requires-clause-above : goal.tray-requires-clause-above
+tray-requires-clause-above c = search rules
+
+pub tray-requires-clause-below : goal.tray-requires-clause-below
+tray-requires-clause-below c = search rules
+
+pub tray-requires-clause-holdup : goal.tray-requires-clause-holdup
+tray-requires-clause-holdup c = search rules
+
+pub tray-requires-clause-slope : goal.tray-requires-clause-slope
+tray-requires-clause-slope c = search rules

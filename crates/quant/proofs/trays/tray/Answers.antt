@@ -88,3 +88,21 @@ returns-clause-size c =
     subst (Holds (around 20000000000000000)) (sym (returns-clause-value c))
     (tray-around Floor c.args.holdup c.args.slope c.args.x c.args.xa c.args.yb c.args.l c.args.v c.requires.own c.requires.above c.requires.below
     c.requires.holdup c.requires.slope c.requires.liquid c.requires.vapour c.requires.drainable)
+
+pub kept-requires-clause-liquid : goal.kept-requires-clause-liquid
+kept-requires-clause-liquid c = search rules
+
+pub kept-requires-clause-vapour : goal.kept-requires-clause-vapour
+kept-requires-clause-vapour c = search rules
+
+pub kept-requires-clause-holdup : goal.kept-requires-clause-holdup
+kept-requires-clause-holdup c = search rules
+
+pub kept-requires-clause-slope : goal.kept-requires-clause-slope
+kept-requires-clause-slope c = search rules
+
+pub kept-requires-clause-drainable : goal.kept-requires-clause-drainable
+kept-requires-clause-drainable c = search rules
+
+pub overflow_mul-l : goal.overflow_mul-l
+overflow_mul-l c = search rules

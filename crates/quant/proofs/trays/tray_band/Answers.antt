@@ -108,3 +108,42 @@ greatest-requires-clause-below c =
     let low = ap (λ (A : Interval). A.lo) c.yb.view_is in
     let high = ap (λ (A : Interval). A.hi) c.yb.view_is in
     record { above = omega (arith, ints); below = omega (arith, ints) }
+
+pub least-requires-clause-own : goal.least-requires-clause-own
+least-requires-clause-own c = search rules
+
+pub least-requires-clause-above : goal.least-requires-clause-above
+least-requires-clause-above c = search rules
+
+pub least-requires-clause-below : goal.least-requires-clause-below
+least-requires-clause-below c = search rules
+
+pub least-requires-clause-liquid : goal.least-requires-clause-liquid
+least-requires-clause-liquid c = search rules
+
+pub least-requires-clause-vapour : goal.least-requires-clause-vapour
+least-requires-clause-vapour c = search rules
+
+pub least-requires-clause-holdup : goal.least-requires-clause-holdup
+least-requires-clause-holdup c = search rules
+
+pub least-requires-clause-slope : goal.least-requires-clause-slope
+least-requires-clause-slope c = search rules
+
+pub least-requires-clause-drainable : goal.least-requires-clause-drainable
+least-requires-clause-drainable c = search rules
+
+pub greatest-requires-clause-liquid : goal.greatest-requires-clause-liquid
+greatest-requires-clause-liquid c = search rules
+
+pub greatest-requires-clause-vapour : goal.greatest-requires-clause-vapour
+greatest-requires-clause-vapour c = search rules
+
+pub greatest-requires-clause-holdup : goal.greatest-requires-clause-holdup
+greatest-requires-clause-holdup c = search rules
+
+pub greatest-requires-clause-slope : goal.greatest-requires-clause-slope
+greatest-requires-clause-slope c = search rules
+
+pub greatest-requires-clause-drainable : goal.greatest-requires-clause-drainable
+greatest-requires-clause-drainable c = search rules

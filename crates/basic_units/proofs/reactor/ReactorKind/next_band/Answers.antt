@@ -10,7 +10,8 @@ use Rattle.quant.specs.Operation.{million, share, keep, gain, blend, lookup, cla
 use Rattle.quant.proofs.Calls.{filled, same_cons, hulled2, hulled4, read, inside-length}
 use Rattle.quant.proofs.Hulls.{hull-band}
 use Rattle.basic_units.specs.Reactor.{state_limits, input_limits}
-use Rattle.basic_units.proofs.Reactors.{volume-inside, conc-inside, temp-inside, input-inside, joined-wide, from_zero-wide, heated-inside}
+use Rattle.basic_units.proofs.Vessels.{volume-inside, conc-inside, temp-inside, input-inside}
+use Rattle.basic_units.proofs.Reactors.{joined-wide, from_zero-wide, heated-inside}
 use Rattle.basic_units.proofs.reactor.ReactorKind.next_band.Goals as goal
 
 pub bounds-ins-3 : goal.bounds-ins-3
@@ -57,86 +58,86 @@ bounds-state-3-2 c =
 
 pub keep_band-kept-requires : goal.keep_band-kept-requires
 keep_band-kept-requires c =
-    let h = volume-inside c.args.self.now c.args.state.now c.index-state-0.result c.requires.sound c.requires.states c.index-state-0.is in
+    let h = volume-inside c.args.self.now.limits c.args.state.now c.index-state-0.result c.requires.sound.limits c.requires.states c.index-state-0.is in
     record { above = omega (arith, ints); below = omega (arith, ints) }
 
 pub blend_band-blended-requires-clause-old : goal.blend_band-blended-requires-clause-old
 blend_band-blended-requires-clause-old c =
-    let h = conc-inside c.args.self.now c.args.state.now c.index-state-2.result c.requires.sound c.requires.states c.index-state-2.is in
+    let h = conc-inside c.args.self.now.limits c.args.state.now c.index-state-2.result c.requires.sound.limits c.requires.states c.index-state-2.is in
     record { above = omega (arith, ints); below = omega (arith, ints) }
 
 pub blend_band-blended-requires-clause-added : goal.blend_band-blended-requires-clause-added
 blend_band-blended-requires-clause-added c =
-    let h = input-inside c.args.ins.now 1 c.index-ins-1.result c.requires.inputs (lit< tt) c.index-ins-1.is in
+    let h = input-inside input_limits c.args.ins.now 1 c.index-ins-1.result c.requires.inputs (lit< tt) c.index-ins-1.is in
     record { above = omega (arith, ints); below = omega (arith, ints) }
 
 pub blend_band-blended-requires-clause-volume : goal.blend_band-blended-requires-clause-volume
 blend_band-blended-requires-clause-volume c =
-    let h = volume-inside c.args.self.now c.args.state.now c.index-state-0-2.result c.requires.sound c.requires.states c.index-state-0-2.is in
+    let h = volume-inside c.args.self.now.limits c.args.state.now c.index-state-0-2.result c.requires.sound.limits c.requires.states c.index-state-0-2.is in
     record { above = omega (arith, ints); below = omega (arith, ints) }
 
 pub blend_band-warmed-requires-clause-old : goal.blend_band-warmed-requires-clause-old
 blend_band-warmed-requires-clause-old c =
-    let h = temp-inside c.args.self.now c.args.state.now c.index-state-3-2.result c.requires.sound c.requires.states c.index-state-3-2.is in
+    let h = temp-inside c.args.self.now.limits c.args.state.now c.index-state-3-2.result c.requires.sound.limits c.requires.states c.index-state-3-2.is in
     record { above = omega (arith, ints); below = omega (arith, ints) }
 
 pub blend_band-warmed-requires-clause-added : goal.blend_band-warmed-requires-clause-added
 blend_band-warmed-requires-clause-added c =
-    let h = input-inside c.args.ins.now 2 c.index-ins-2.result c.requires.inputs (lit< tt) c.index-ins-2.is in
+    let h = input-inside input_limits c.args.ins.now 2 c.index-ins-2.result c.requires.inputs (lit< tt) c.index-ins-2.is in
     record { above = omega (arith, ints); below = omega (arith, ints) }
 
 pub blend_band-warmed-requires-clause-volume : goal.blend_band-warmed-requires-clause-volume
 blend_band-warmed-requires-clause-volume c =
-    let h = volume-inside c.args.self.now c.args.state.now c.index-state-0-3.result c.requires.sound c.requires.states c.index-state-0-3.is in
+    let h = volume-inside c.args.self.now.limits c.args.state.now c.index-state-0-3.result c.requires.sound.limits c.requires.states c.index-state-0-3.is in
     record { above = omega (arith, ints); below = omega (arith, ints) }
 
 pub share_band-requires : goal.share_band-requires
 share_band-requires c =
-    let h = joined-wide c.index-state-2.result c.index-ins-1.result c.blend_band-blended.result (conc-inside c.args.self.now c.args.state.now c.index-state-2.result c.requires.sound c.requires.states c.index-state-2.is) (input-inside c.args.ins.now 1 c.index-ins-1.result c.requires.inputs (lit< tt) c.index-ins-1.is) c.blend_band-blended.ensures.between in
+    let h = joined-wide c.index-state-2.result c.index-ins-1.result c.blend_band-blended.result (conc-inside c.args.self.now.limits c.args.state.now c.index-state-2.result c.requires.sound.limits c.requires.states c.index-state-2.is) (input-inside input_limits c.args.ins.now 1 c.index-ins-1.result c.requires.inputs (lit< tt) c.index-ins-1.is) c.blend_band-blended.ensures.between in
     record { above = omega (arith, ints); below = omega (arith, ints) }
 
 pub gain_band-requires-clause-number : goal.gain_band-requires-clause-number
 gain_band-requires-clause-number c =
-    let h = from_zero-wide c.blend_band-blended.result c.share_band.result (joined-wide c.index-state-2.result c.index-ins-1.result c.blend_band-blended.result (conc-inside c.args.self.now c.args.state.now c.index-state-2.result c.requires.sound c.requires.states c.index-state-2.is) (input-inside c.args.ins.now 1 c.index-ins-1.result c.requires.inputs (lit< tt) c.index-ins-1.is) c.blend_band-blended.ensures.between) c.share_band.ensures.between in
+    let h = from_zero-wide c.blend_band-blended.result c.share_band.result (joined-wide c.index-state-2.result c.index-ins-1.result c.blend_band-blended.result (conc-inside c.args.self.now.limits c.args.state.now c.index-state-2.result c.requires.sound.limits c.requires.states c.index-state-2.is) (input-inside input_limits c.args.ins.now 1 c.index-ins-1.result c.requires.inputs (lit< tt) c.index-ins-1.is) c.blend_band-blended.ensures.between) c.share_band.ensures.between in
     record { above = omega (arith, ints); below = omega (arith, ints) }
 
 pub add_band-heated-requires-clause-left : goal.add_band-heated-requires-clause-left
 add_band-heated-requires-clause-left c =
-    let h = joined-wide c.index-state-3-2.result c.index-ins-2.result c.blend_band-warmed.result (temp-inside c.args.self.now c.args.state.now c.index-state-3-2.result c.requires.sound c.requires.states c.index-state-3-2.is) (input-inside c.args.ins.now 2 c.index-ins-2.result c.requires.inputs (lit< tt) c.index-ins-2.is) c.blend_band-warmed.ensures.between in
+    let h = joined-wide c.index-state-3-2.result c.index-ins-2.result c.blend_band-warmed.result (temp-inside c.args.self.now.limits c.args.state.now c.index-state-3-2.result c.requires.sound.limits c.requires.states c.index-state-3-2.is) (input-inside input_limits c.args.ins.now 2 c.index-ins-2.result c.requires.inputs (lit< tt) c.index-ins-2.is) c.blend_band-warmed.ensures.between in
     record { above = omega (arith, ints); below = omega (arith, ints) }
 
 pub blend_band-jacketed-requires-clause-old : goal.blend_band-jacketed-requires-clause-old
 blend_band-jacketed-requires-clause-old c =
     heated-inside c.blend_band-warmed.result c.share_band.result c.gain_band.result c.add_band-heated.result c.args.self.now.heat
     (hull-band _ _ c.blend_band-warmed.ensures.exact) (hull-band _ _ c.share_band.ensures.exact) (hull-band _ _ c.gain_band.ensures.exact)
-    (joined-wide c.index-state-3-2.result c.index-ins-2.result c.blend_band-warmed.result (temp-inside c.args.self.now c.args.state.now c.index-state-3-2.result c.requires.sound c.requires.states c.index-state-3-2.is) (input-inside c.args.ins.now 2 c.index-ins-2.result c.requires.inputs (lit< tt) c.index-ins-2.is) c.blend_band-warmed.ensures.between)
-    (from_zero-wide c.blend_band-blended.result c.share_band.result (joined-wide c.index-state-2.result c.index-ins-1.result c.blend_band-blended.result (conc-inside c.args.self.now c.args.state.now c.index-state-2.result c.requires.sound c.requires.states c.index-state-2.is) (input-inside c.args.ins.now 1 c.index-ins-1.result c.requires.inputs (lit< tt) c.index-ins-1.is) c.blend_band-blended.ensures.between) c.share_band.ensures.between)
+    (joined-wide c.index-state-3-2.result c.index-ins-2.result c.blend_band-warmed.result (temp-inside c.args.self.now.limits c.args.state.now c.index-state-3-2.result c.requires.sound.limits c.requires.states c.index-state-3-2.is) (input-inside input_limits c.args.ins.now 2 c.index-ins-2.result c.requires.inputs (lit< tt) c.index-ins-2.is) c.blend_band-warmed.ensures.between)
+    (from_zero-wide c.blend_band-blended.result c.share_band.result (joined-wide c.index-state-2.result c.index-ins-1.result c.blend_band-blended.result (conc-inside c.args.self.now.limits c.args.state.now c.index-state-2.result c.requires.sound.limits c.requires.states c.index-state-2.is) (input-inside input_limits c.args.ins.now 1 c.index-ins-1.result c.requires.inputs (lit< tt) c.index-ins-1.is) c.blend_band-blended.ensures.between) c.share_band.ensures.between)
     c.requires.sound.heat c.gain_band.ensures.hull c.add_band-heated.ensures.hull
 
 pub blend_band-jacketed-requires-clause-added : goal.blend_band-jacketed-requires-clause-added
 blend_band-jacketed-requires-clause-added c =
-    let h = input-inside c.args.ins.now 4 c.index-ins-4.result c.requires.inputs (lit< tt) c.index-ins-4.is in
+    let h = input-inside input_limits c.args.ins.now 4 c.index-ins-4.result c.requires.inputs (lit< tt) c.index-ins-4.is in
     record { above = omega (arith, ints); below = omega (arith, ints) }
 
 pub add_band-requires-clause-left : goal.add_band-requires-clause-left
 add_band-requires-clause-left c =
-    let h = volume-inside c.args.self.now c.args.state.now c.index-state-0.result c.requires.sound c.requires.states c.index-state-0.is in
+    let h = volume-inside c.args.self.now.limits c.args.state.now c.index-state-0.result c.requires.sound.limits c.requires.states c.index-state-0.is in
     let k = c.keep_band-kept.ensures.between in
     record { above = omega (arith, ints, clamps); below = omega (arith, ints, clamps) }
 
 pub add_band-requires-clause-right : goal.add_band-requires-clause-right
 add_band-requires-clause-right c =
-    let h = input-inside c.args.ins.now 0 c.index-ins-0-3.result c.requires.inputs (lit< tt) c.index-ins-0-3.is in
+    let h = input-inside input_limits c.args.ins.now 0 c.index-ins-0-3.result c.requires.inputs (lit< tt) c.index-ins-0-3.is in
     record { above = omega (arith, ints); below = omega (arith, ints) }
 
 pub share_band-requires-2 : goal.share_band-requires-2
 share_band-requires-2 c =
-    let h = volume-inside c.args.self.now c.args.state.now c.index-state-0-4.result c.requires.sound c.requires.states c.index-state-0-4.is in
+    let h = volume-inside c.args.self.now.limits c.args.state.now c.index-state-0-4.result c.requires.sound.limits c.requires.states c.index-state-0-4.is in
     record { above = omega (arith, ints); below = omega (arith, ints) }
 
 pub keep_band-requires : goal.keep_band-requires
 keep_band-requires c =
-    let h = joined-wide c.index-state-2.result c.index-ins-1.result c.blend_band-blended.result (conc-inside c.args.self.now c.args.state.now c.index-state-2.result c.requires.sound c.requires.states c.index-state-2.is) (input-inside c.args.ins.now 1 c.index-ins-1.result c.requires.inputs (lit< tt) c.index-ins-1.is) c.blend_band-blended.ensures.between in
+    let h = joined-wide c.index-state-2.result c.index-ins-1.result c.blend_band-blended.result (conc-inside c.args.self.now.limits c.args.state.now c.index-state-2.result c.requires.sound.limits c.requires.states c.index-state-2.is) (input-inside input_limits c.args.ins.now 1 c.index-ins-1.result c.requires.inputs (lit< tt) c.index-ins-1.is) c.blend_band-blended.ensures.between in
     record { above = omega (arith, ints); below = omega (arith, ints) }
 
 pub returns : goal.returns
@@ -195,3 +196,27 @@ returns c =
     (same_cons _ _ _ _ (c.clamp_band-2.ensures.hull ∙ ap (hull1 (clamp reactor.limits.flow)) out)
     (same_cons _ _ _ _ (c.clamp_band-3.ensures.hull ∙ ap (hull1 (clamp reactor.limits.conc)) stays)
     (same_cons _ _ _ _ (c.clamp_band-4.ensures.hull ∙ ap (hull1 (clamp reactor.limits.temp)) jacketed) refl)))
+
+pub add_band-heated-requires-clause-right : goal.add_band-heated-requires-clause-right
+add_band-heated-requires-clause-right c = search rules
+
+pub blend_band-jacketed-requires-clause-volume : goal.blend_band-jacketed-requires-clause-volume
+blend_band-jacketed-requires-clause-volume c = search rules
+
+pub bounds-new-0 : goal.bounds-new-0
+bounds-new-0 c = search rules
+
+pub bounds-new-1 : goal.bounds-new-1
+bounds-new-1 c = search rules
+
+pub bounds-new-2 : goal.bounds-new-2
+bounds-new-2 c = search rules
+
+pub bounds-new-3 : goal.bounds-new-3
+bounds-new-3 c = search rules
+
+pub gain_band-requires-clause-ppm : goal.gain_band-requires-clause-ppm
+gain_band-requires-clause-ppm c = search rules
+
+pub share_band-drained-requires : goal.share_band-drained-requires
+share_band-drained-requires c = search rules

@@ -6,63 +6,65 @@ use Rattle.std.specs.Prelude.{slice_index_or}
 use Rattle.quant.specs.Rounding.{Floor}
 use Rattle.quant.specs.Operation.{million, share, keep, gain, blend, lookup, clamp}
 use Rattle.quant.proofs.Calls.{filled, same_cons, held-length, given1, given2, given4}
+use Rattle.quant.proofs.Terms.{place-holds}
 use Rattle.basic_units.specs.Reactor.{input_limits}
-use Rattle.basic_units.proofs.Reactors.{volume-held, conc-held, temp-held, input-held, blended-wide, shared-wide, heated-around}
+use Rattle.basic_units.proofs.Vessels.{volume-held, conc-held, temp-held}
+use Rattle.basic_units.proofs.Reactors.{blended-wide, shared-wide, heated-around}
 use Rattle.basic_units.proofs.reactor.ReactorKind.next_point.Goals as goal
 
 pub blend-blended-requires-clause-old : goal.blend-blended-requires-clause-old
 blend-blended-requires-clause-old c =
-    let h = conc-held c.args.self.now c.args.state.now c.requires.sound c.requires.states in
+    let h = conc-held c.args.self.now.limits c.args.state.now c.requires.sound.limits c.requires.states in
     record { above = omega (arith, ints); below = omega (arith, ints) }
 
 pub blend-blended-requires-clause-added : goal.blend-blended-requires-clause-added
 blend-blended-requires-clause-added c =
-    let h = input-held c.args.ins.now 1 c.requires.inputs in
+    let h = place-holds input_limits c.args.ins.now 1 c.requires.inputs in
     record { above = omega (arith, ints); below = omega (arith, ints) }
 
 pub blend-blended-requires-clause-volume : goal.blend-blended-requires-clause-volume
 blend-blended-requires-clause-volume c =
-    let h = volume-held c.args.self.now c.args.state.now c.requires.sound c.requires.states in
+    let h = volume-held c.args.self.now.limits c.args.state.now c.requires.sound.limits c.requires.states in
     record { above = omega (arith, ints); below = omega (arith, ints) }
 
 pub blend-warmed-requires-clause-old : goal.blend-warmed-requires-clause-old
 blend-warmed-requires-clause-old c =
-    let h = temp-held c.args.self.now c.args.state.now c.requires.sound c.requires.states in
+    let h = temp-held c.args.self.now.limits c.args.state.now c.requires.sound.limits c.requires.states in
     record { above = omega (arith, ints); below = omega (arith, ints) }
 
 pub blend-warmed-requires-clause-added : goal.blend-warmed-requires-clause-added
 blend-warmed-requires-clause-added c =
-    let h = input-held c.args.ins.now 2 c.requires.inputs in
+    let h = place-holds input_limits c.args.ins.now 2 c.requires.inputs in
     record { above = omega (arith, ints); below = omega (arith, ints) }
 
 pub blend-warmed-requires-clause-volume : goal.blend-warmed-requires-clause-volume
 blend-warmed-requires-clause-volume c =
-    let h = volume-held c.args.self.now c.args.state.now c.requires.sound c.requires.states in
+    let h = volume-held c.args.self.now.limits c.args.state.now c.requires.sound.limits c.requires.states in
     record { above = omega (arith, ints); below = omega (arith, ints) }
 
 pub share-requires : goal.share-requires
 share-requires c =
-    let h = blended-wide _ _ c.blend-blended.result (conc-held c.args.self.now c.args.state.now c.requires.sound c.requires.states) (input-held c.args.ins.now 1 c.requires.inputs) c.blend-blended.ensures.between in
+    let h = blended-wide _ _ c.blend-blended.result (conc-held c.args.self.now.limits c.args.state.now c.requires.sound.limits c.requires.states) (place-holds input_limits c.args.ins.now 1 c.requires.inputs) c.blend-blended.ensures.between in
     record { above = omega (arith, ints); below = omega (arith, ints) }
 
 pub gain-requires-clause-number : goal.gain-requires-clause-number
 gain-requires-clause-number c =
-    let h = shared-wide c.blend-blended.result c.share.result (blended-wide _ _ c.blend-blended.result (conc-held c.args.self.now c.args.state.now c.requires.sound c.requires.states) (input-held c.args.ins.now 1 c.requires.inputs) c.blend-blended.ensures.between) c.share.ensures.between in
+    let h = shared-wide c.blend-blended.result c.share.result (blended-wide _ _ c.blend-blended.result (conc-held c.args.self.now.limits c.args.state.now c.requires.sound.limits c.requires.states) (place-holds input_limits c.args.ins.now 1 c.requires.inputs) c.blend-blended.ensures.between) c.share.ensures.between in
     record { above = omega (arith, ints); below = omega (arith, ints) }
 
 pub add-heated-requires-clause-left : goal.add-heated-requires-clause-left
 add-heated-requires-clause-left c =
-    let h = blended-wide _ _ c.blend-warmed.result (temp-held c.args.self.now c.args.state.now c.requires.sound c.requires.states) (input-held c.args.ins.now 2 c.requires.inputs) c.blend-warmed.ensures.between in
+    let h = blended-wide _ _ c.blend-warmed.result (temp-held c.args.self.now.limits c.args.state.now c.requires.sound.limits c.requires.states) (place-holds input_limits c.args.ins.now 2 c.requires.inputs) c.blend-warmed.ensures.between in
     record { above = omega (arith, ints); below = omega (arith, ints) }
 
 pub blend-jacketed-requires-clause-old : goal.blend-jacketed-requires-clause-old
 blend-jacketed-requires-clause-old c =
-    let h = heated-around _ _ _ _ c.add-heated.result (blended-wide _ _ c.blend-warmed.result (temp-held c.args.self.now c.args.state.now c.requires.sound c.requires.states) (input-held c.args.ins.now 2 c.requires.inputs) c.blend-warmed.ensures.between) (shared-wide c.blend-blended.result c.share.result (blended-wide _ _ c.blend-blended.result (conc-held c.args.self.now c.args.state.now c.requires.sound c.requires.states) (input-held c.args.ins.now 1 c.requires.inputs) c.blend-blended.ensures.between) c.share.ensures.between) c.requires.sound.heat c.gain.ensures.value c.add-heated.ensures in
+    let h = heated-around _ _ _ _ c.add-heated.result (blended-wide _ _ c.blend-warmed.result (temp-held c.args.self.now.limits c.args.state.now c.requires.sound.limits c.requires.states) (place-holds input_limits c.args.ins.now 2 c.requires.inputs) c.blend-warmed.ensures.between) (shared-wide c.blend-blended.result c.share.result (blended-wide _ _ c.blend-blended.result (conc-held c.args.self.now.limits c.args.state.now c.requires.sound.limits c.requires.states) (place-holds input_limits c.args.ins.now 1 c.requires.inputs) c.blend-blended.ensures.between) c.share.ensures.between) c.requires.sound.heat c.gain.ensures.value c.add-heated.ensures in
     record { above = omega (arith, ints); below = omega (arith, ints) }
 
 pub blend-jacketed-requires-clause-added : goal.blend-jacketed-requires-clause-added
 blend-jacketed-requires-clause-added c =
-    let h = input-held c.args.ins.now 4 c.requires.inputs in
+    let h = place-holds input_limits c.args.ins.now 4 c.requires.inputs in
     record { above = omega (arith, ints); below = omega (arith, ints) }
 
 pub bounds-ins-4 : goal.bounds-ins-4
@@ -73,28 +75,28 @@ bounds-ins-4 c =
 
 pub keep-requires : goal.keep-requires
 keep-requires c =
-    let h = volume-held c.args.self.now c.args.state.now c.requires.sound c.requires.states in
+    let h = volume-held c.args.self.now.limits c.args.state.now c.requires.sound.limits c.requires.states in
     record { above = omega (arith, ints); below = omega (arith, ints) }
 
 pub add-requires-clause-left : goal.add-requires-clause-left
 add-requires-clause-left c =
-    let h = volume-held c.args.self.now c.args.state.now c.requires.sound c.requires.states in
+    let h = volume-held c.args.self.now.limits c.args.state.now c.requires.sound.limits c.requires.states in
     let k = c.keep.ensures.between in
     record { above = omega (arith, ints, clamps); below = omega (arith, ints, clamps) }
 
 pub add-requires-clause-right : goal.add-requires-clause-right
 add-requires-clause-right c =
-    let h = input-held c.args.ins.now 0 c.requires.inputs in
+    let h = place-holds input_limits c.args.ins.now 0 c.requires.inputs in
     record { above = omega (arith, ints); below = omega (arith, ints) }
 
 pub share-requires-2 : goal.share-requires-2
 share-requires-2 c =
-    let h = volume-held c.args.self.now c.args.state.now c.requires.sound c.requires.states in
+    let h = volume-held c.args.self.now.limits c.args.state.now c.requires.sound.limits c.requires.states in
     record { above = omega (arith, ints); below = omega (arith, ints) }
 
 pub keep-requires-2 : goal.keep-requires-2
 keep-requires-2 c =
-    let h = blended-wide _ _ c.blend-blended.result (conc-held c.args.self.now c.args.state.now c.requires.sound c.requires.states) (input-held c.args.ins.now 1 c.requires.inputs) c.blend-blended.ensures.between in
+    let h = blended-wide _ _ c.blend-blended.result (conc-held c.args.self.now.limits c.args.state.now c.requires.sound.limits c.requires.states) (place-holds input_limits c.args.ins.now 1 c.requires.inputs) c.blend-blended.ensures.between in
     record { above = omega (arith, ints); below = omega (arith, ints) }
 
 pub returns : goal.returns
@@ -148,3 +150,66 @@ returns c =
     (same_cons _ _ _ _ (given1 (clamp reactor.limits.flow) _ _ _ (search rules) c.clamp-2.ensures.value out)
     (same_cons _ _ _ _ (given1 (clamp reactor.limits.conc) _ _ _ (search rules) c.clamp-3.ensures.value left)
     (same_cons _ _ _ _ (given1 (clamp reactor.limits.temp) _ _ _ (search rules) c.clamp-4.ensures.value jacketed) refl)))
+
+pub add-heated-requires-clause-right : goal.add-heated-requires-clause-right
+add-heated-requires-clause-right c = search rules
+
+pub blend-jacketed-requires-clause-volume : goal.blend-jacketed-requires-clause-volume
+blend-jacketed-requires-clause-volume c = search rules
+
+pub bounds-ins-0 : goal.bounds-ins-0
+bounds-ins-0 c = search rules
+
+pub bounds-ins-0-2 : goal.bounds-ins-0-2
+bounds-ins-0-2 c = search rules
+
+pub bounds-ins-0-3 : goal.bounds-ins-0-3
+bounds-ins-0-3 c = search rules
+
+pub bounds-ins-1 : goal.bounds-ins-1
+bounds-ins-1 c = search rules
+
+pub bounds-ins-2 : goal.bounds-ins-2
+bounds-ins-2 c = search rules
+
+pub bounds-ins-3 : goal.bounds-ins-3
+bounds-ins-3 c = search rules
+
+pub bounds-new-0 : goal.bounds-new-0
+bounds-new-0 c = search rules
+
+pub bounds-new-1 : goal.bounds-new-1
+bounds-new-1 c = search rules
+
+pub bounds-new-2 : goal.bounds-new-2
+bounds-new-2 c = search rules
+
+pub bounds-new-3 : goal.bounds-new-3
+bounds-new-3 c = search rules
+
+pub bounds-state-0 : goal.bounds-state-0
+bounds-state-0 c = search rules
+
+pub bounds-state-0-2 : goal.bounds-state-0-2
+bounds-state-0-2 c = search rules
+
+pub bounds-state-0-3 : goal.bounds-state-0-3
+bounds-state-0-3 c = search rules
+
+pub bounds-state-0-4 : goal.bounds-state-0-4
+bounds-state-0-4 c = search rules
+
+pub bounds-state-2 : goal.bounds-state-2
+bounds-state-2 c = search rules
+
+pub bounds-state-3 : goal.bounds-state-3
+bounds-state-3 c = search rules
+
+pub bounds-state-3-2 : goal.bounds-state-3-2
+bounds-state-3-2 c = search rules
+
+pub gain-requires-clause-ppm : goal.gain-requires-clause-ppm
+gain-requires-clause-ppm c = search rules
+
+pub share-drained-requires : goal.share-drained-requires
+share-drained-requires c = search rules

@@ -1,5 +1,5 @@
 -- The outputs are written one after another.
-use Rattle.std.proofs.Common.{[], ◌∷◌, refl, ap, ◌∙◌, ◌<◌, length, arith}
+use Rattle.std.proofs.Common.{rules, [], ◌∷◌, refl, ap, ◌∙◌, ◌<◌, length, arith}
 use Rattle.quant.specs.Hull.{hull1}
 use Rattle.quant.specs.Operation.{clamp}
 use Rattle.quant.proofs.Calls.{filled, same_cons, read, inside-length}
@@ -31,3 +31,18 @@ returns c =
     (same_cons _ _ _ _ (read states 3 _ (omega arith) c.index-state-3.is)
     (same_cons _ _ _ _ (c.clamp_band.ensures.hull ∙ ap (hull1 (clamp c.args.self.now.limits.signal)) (read states 0 _ (omega arith) c.index-state-0.is))
     (same_cons _ _ _ _ (c.clamp_band-2.ensures.hull ∙ ap (hull1 (clamp c.args.self.now.limits.signal)) (read states 3 _ (omega arith) c.index-state-3-2.is)) refl))))
+
+pub bounds-outs-0 : goal.bounds-outs-0
+bounds-outs-0 c = search rules
+
+pub bounds-outs-1 : goal.bounds-outs-1
+bounds-outs-1 c = search rules
+
+pub bounds-outs-2 : goal.bounds-outs-2
+bounds-outs-2 c = search rules
+
+pub bounds-outs-3 : goal.bounds-outs-3
+bounds-outs-3 c = search rules
+
+pub bounds-outs-4 : goal.bounds-outs-4
+bounds-outs-4 c = search rules

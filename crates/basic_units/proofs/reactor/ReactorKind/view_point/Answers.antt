@@ -25,3 +25,33 @@ returns c =
     (same_cons _ _ _ _ (to_z-of_z w64 temp t)
     (same_cons _ _ _ _ (given1 (clamp c.args.self.now.limits.signal) _ c.clamp.result volume r c.clamp.ensures.value (to_z-of_z w64 volume v))
     (same_cons _ _ _ _ (given1 (clamp c.args.self.now.limits.signal) _ c.clamp-2.result temp (search rules) c.clamp-2.ensures.value (to_z-of_z w64 temp t)) refl))))
+
+pub bounds-outs-0 : goal.bounds-outs-0
+bounds-outs-0 c = search rules
+
+pub bounds-outs-1 : goal.bounds-outs-1
+bounds-outs-1 c = search rules
+
+pub bounds-outs-2 : goal.bounds-outs-2
+bounds-outs-2 c = search rules
+
+pub bounds-outs-3 : goal.bounds-outs-3
+bounds-outs-3 c = search rules
+
+pub bounds-outs-4 : goal.bounds-outs-4
+bounds-outs-4 c = search rules
+
+pub bounds-state-0 : goal.bounds-state-0
+bounds-state-0 c = search rules
+
+pub bounds-state-1 : goal.bounds-state-1
+bounds-state-1 c = search rules
+
+pub bounds-state-2 : goal.bounds-state-2
+bounds-state-2 c = search rules
+
+pub bounds-state-3 : goal.bounds-state-3
+bounds-state-3 c = search rules
+
+pub bounds-state-3-2 : goal.bounds-state-3-2
+bounds-state-3-2 c = search rules

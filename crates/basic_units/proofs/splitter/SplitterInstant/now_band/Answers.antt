@@ -58,3 +58,21 @@ returns c =
     (same_cons _ _ _ _ conc (same_cons _ _ _ _ temp
     (same_cons _ _ _ _ (c.clamp_band-2.ensures.hull ∙ ap (hull1 (clamp splitter.limits.flow)) second)
     (same_cons _ _ _ _ conc (same_cons _ _ _ _ temp refl)))))
+
+pub bounds-outs-0 : goal.bounds-outs-0
+bounds-outs-0 c = search rules
+
+pub bounds-outs-1 : goal.bounds-outs-1
+bounds-outs-1 c = search rules
+
+pub bounds-outs-2 : goal.bounds-outs-2
+bounds-outs-2 c = search rules
+
+pub bounds-outs-3 : goal.bounds-outs-3
+bounds-outs-3 c = search rules
+
+pub bounds-outs-4 : goal.bounds-outs-4
+bounds-outs-4 c = search rules
+
+pub bounds-outs-5 : goal.bounds-outs-5
+bounds-outs-5 c = search rules

@@ -28,3 +28,39 @@ returns c =
     (same_cons _ _ _ _ conc (same_cons _ _ _ _ temp
     (same_cons _ _ _ _ (given1 (clamp splitter.limits.flow) _ _ _ (search rules) c.clamp-2.ensures.value second)
     (same_cons _ _ _ _ conc (same_cons _ _ _ _ temp refl)))))
+
+pub bounds-ins-0 : goal.bounds-ins-0
+bounds-ins-0 c = search rules
+
+pub bounds-ins-0-2 : goal.bounds-ins-0-2
+bounds-ins-0-2 c = search rules
+
+pub bounds-ins-1 : goal.bounds-ins-1
+bounds-ins-1 c = search rules
+
+pub bounds-ins-2 : goal.bounds-ins-2
+bounds-ins-2 c = search rules
+
+pub bounds-outs-0 : goal.bounds-outs-0
+bounds-outs-0 c = search rules
+
+pub bounds-outs-1 : goal.bounds-outs-1
+bounds-outs-1 c = search rules
+
+pub bounds-outs-2 : goal.bounds-outs-2
+bounds-outs-2 c = search rules
+
+pub bounds-outs-3 : goal.bounds-outs-3
+bounds-outs-3 c = search rules
+
+pub bounds-outs-4 : goal.bounds-outs-4
+bounds-outs-4 c = search rules
+
+pub bounds-outs-5 : goal.bounds-outs-5
+bounds-outs-5 c = search rules
+
+pub keep-requires : goal.keep-requires
+keep-requires c = search rules
+
+pub share-requires : goal.share-requires
+share-requires c = search rules

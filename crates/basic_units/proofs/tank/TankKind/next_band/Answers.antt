@@ -9,7 +9,7 @@ use Rattle.quant.specs.Rounding.{Floor}
 use Rattle.quant.specs.Operation.{share, keep, blend, clamp}
 use Rattle.quant.proofs.Calls.{filled, same_cons, hulled2, hulled4, read, inside-length}
 use Rattle.basic_units.specs.Tank.{state_limits, input_limits}
-use Rattle.basic_units.proofs.Tanks.{volume-inside, conc-inside, temp-inside, input-inside}
+use Rattle.basic_units.proofs.Vessels.{volume-inside, conc-inside, temp-inside, input-inside}
 use Rattle.basic_units.proofs.tank.TankKind.next_band.Goals as goal
 
 pub bounds-ins-3 : goal.bounds-ins-3
@@ -41,53 +41,53 @@ bounds-state-3 c =
 
 pub keep_band-kept-requires : goal.keep_band-kept-requires
 keep_band-kept-requires c =
-    let h = volume-inside c.args.self.now c.args.state.now c.index-state-0.result c.requires.sound c.requires.states c.index-state-0.is in
+    let h = volume-inside c.args.self.now.limits c.args.state.now c.index-state-0.result c.requires.sound.limits c.requires.states c.index-state-0.is in
     record { above = omega (arith, ints); below = omega (arith, ints) }
 
 pub add_band-requires-clause-left : goal.add_band-requires-clause-left
 add_band-requires-clause-left c =
-    let h = volume-inside c.args.self.now c.args.state.now c.index-state-0.result c.requires.sound c.requires.states c.index-state-0.is in
+    let h = volume-inside c.args.self.now.limits c.args.state.now c.index-state-0.result c.requires.sound.limits c.requires.states c.index-state-0.is in
     let k = c.keep_band-kept.ensures.between in
     record { above = omega (arith, ints, clamps); below = omega (arith, ints, clamps) }
 
 pub add_band-requires-clause-right : goal.add_band-requires-clause-right
 add_band-requires-clause-right c =
-    let h = input-inside c.args.ins.now 0 c.index-ins-0.result c.requires.inputs (lit< tt) c.index-ins-0.is in
+    let h = input-inside input_limits c.args.ins.now 0 c.index-ins-0.result c.requires.inputs (lit< tt) c.index-ins-0.is in
     record { above = omega (arith, ints); below = omega (arith, ints) }
 
 pub share_band-requires : goal.share_band-requires
 share_band-requires c =
-    let h = volume-inside c.args.self.now c.args.state.now c.index-state-0-2.result c.requires.sound c.requires.states c.index-state-0-2.is in
+    let h = volume-inside c.args.self.now.limits c.args.state.now c.index-state-0-2.result c.requires.sound.limits c.requires.states c.index-state-0-2.is in
     record { above = omega (arith, ints); below = omega (arith, ints) }
 
 pub blend_band-requires-clause-old : goal.blend_band-requires-clause-old
 blend_band-requires-clause-old c =
-    let h = conc-inside c.args.self.now c.args.state.now c.index-state-2.result c.requires.sound c.requires.states c.index-state-2.is in
+    let h = conc-inside c.args.self.now.limits c.args.state.now c.index-state-2.result c.requires.sound.limits c.requires.states c.index-state-2.is in
     record { above = omega (arith, ints); below = omega (arith, ints) }
 
 pub blend_band-requires-clause-added : goal.blend_band-requires-clause-added
 blend_band-requires-clause-added c =
-    let h = input-inside c.args.ins.now 1 c.index-ins-1.result c.requires.inputs (lit< tt) c.index-ins-1.is in
+    let h = input-inside input_limits c.args.ins.now 1 c.index-ins-1.result c.requires.inputs (lit< tt) c.index-ins-1.is in
     record { above = omega (arith, ints); below = omega (arith, ints) }
 
 pub blend_band-requires-clause-volume : goal.blend_band-requires-clause-volume
 blend_band-requires-clause-volume c =
-    let h = volume-inside c.args.self.now c.args.state.now c.index-state-0-3.result c.requires.sound c.requires.states c.index-state-0-3.is in
+    let h = volume-inside c.args.self.now.limits c.args.state.now c.index-state-0-3.result c.requires.sound.limits c.requires.states c.index-state-0-3.is in
     record { above = omega (arith, ints); below = omega (arith, ints) }
 
 pub blend_band-requires-2-clause-old : goal.blend_band-requires-2-clause-old
 blend_band-requires-2-clause-old c =
-    let h = temp-inside c.args.self.now c.args.state.now c.index-state-3.result c.requires.sound c.requires.states c.index-state-3.is in
+    let h = temp-inside c.args.self.now.limits c.args.state.now c.index-state-3.result c.requires.sound.limits c.requires.states c.index-state-3.is in
     record { above = omega (arith, ints); below = omega (arith, ints) }
 
 pub blend_band-requires-2-clause-added : goal.blend_band-requires-2-clause-added
 blend_band-requires-2-clause-added c =
-    let h = input-inside c.args.ins.now 2 c.index-ins-2.result c.requires.inputs (lit< tt) c.index-ins-2.is in
+    let h = input-inside input_limits c.args.ins.now 2 c.index-ins-2.result c.requires.inputs (lit< tt) c.index-ins-2.is in
     record { above = omega (arith, ints); below = omega (arith, ints) }
 
 pub blend_band-requires-2-clause-volume : goal.blend_band-requires-2-clause-volume
 blend_band-requires-2-clause-volume c =
-    let h = volume-inside c.args.self.now c.args.state.now c.index-state-0-4.result c.requires.sound c.requires.states c.index-state-0-4.is in
+    let h = volume-inside c.args.self.now.limits c.args.state.now c.index-state-0-4.result c.requires.sound.limits c.requires.states c.index-state-0-4.is in
     record { above = omega (arith, ints); below = omega (arith, ints) }
 
 pub returns : goal.returns
@@ -128,3 +128,18 @@ returns c =
     (same_cons _ _ _ _ (c.clamp_band-2.ensures.hull ∙ ap (hull1 (clamp tank.limits.flow)) out)
     (same_cons _ _ _ _ (c.clamp_band-3.ensures.hull ∙ ap (hull1 (clamp tank.limits.conc)) mixed)
     (same_cons _ _ _ _ (c.clamp_band-4.ensures.hull ∙ ap (hull1 (clamp tank.limits.temp)) warmed) refl)))
+
+pub bounds-new-0 : goal.bounds-new-0
+bounds-new-0 c = search rules
+
+pub bounds-new-1 : goal.bounds-new-1
+bounds-new-1 c = search rules
+
+pub bounds-new-2 : goal.bounds-new-2
+bounds-new-2 c = search rules
+
+pub bounds-new-3 : goal.bounds-new-3
+bounds-new-3 c = search rules
+
+pub share_band-drained-requires : goal.share_band-drained-requires
+share_band-drained-requires c = search rules

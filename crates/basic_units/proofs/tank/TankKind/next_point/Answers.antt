@@ -6,58 +6,60 @@ use Rattle.std.specs.Prelude.{slice_index_or}
 use Rattle.quant.specs.Rounding.{Floor}
 use Rattle.quant.specs.Operation.{share, keep, blend, clamp}
 use Rattle.quant.proofs.Calls.{filled, same_cons, given1, given2, given4}
-use Rattle.basic_units.proofs.Tanks.{volume-held, conc-held, temp-held, input-held}
+use Rattle.quant.proofs.Terms.{place-holds}
+use Rattle.basic_units.specs.Tank.{input_limits}
+use Rattle.basic_units.proofs.Vessels.{volume-held, conc-held, temp-held}
 use Rattle.basic_units.proofs.tank.TankKind.next_point.Goals as goal
 
 pub keep-requires : goal.keep-requires
 keep-requires c =
-    let h = volume-held c.args.self.now c.args.state.now c.requires.sound c.requires.states in
+    let h = volume-held c.args.self.now.limits c.args.state.now c.requires.sound.limits c.requires.states in
     record { above = omega (arith, ints); below = omega (arith, ints) }
 
 pub add-requires-clause-left : goal.add-requires-clause-left
 add-requires-clause-left c =
-    let h = volume-held c.args.self.now c.args.state.now c.requires.sound c.requires.states in
+    let h = volume-held c.args.self.now.limits c.args.state.now c.requires.sound.limits c.requires.states in
     let k = c.keep.ensures.between in
     record { above = omega (arith, ints, clamps); below = omega (arith, ints, clamps) }
 
 pub add-requires-clause-right : goal.add-requires-clause-right
 add-requires-clause-right c =
-    let h = input-held c.args.ins.now 0 c.requires.inputs in
+    let h = place-holds input_limits c.args.ins.now 0 c.requires.inputs in
     record { above = omega (arith, ints); below = omega (arith, ints) }
 
 pub share-requires : goal.share-requires
 share-requires c =
-    let h = volume-held c.args.self.now c.args.state.now c.requires.sound c.requires.states in
+    let h = volume-held c.args.self.now.limits c.args.state.now c.requires.sound.limits c.requires.states in
     record { above = omega (arith, ints); below = omega (arith, ints) }
 
 pub blend-requires-clause-old : goal.blend-requires-clause-old
 blend-requires-clause-old c =
-    let h = conc-held c.args.self.now c.args.state.now c.requires.sound c.requires.states in
+    let h = conc-held c.args.self.now.limits c.args.state.now c.requires.sound.limits c.requires.states in
     record { above = omega (arith, ints); below = omega (arith, ints) }
 
 pub blend-requires-clause-added : goal.blend-requires-clause-added
 blend-requires-clause-added c =
-    let h = input-held c.args.ins.now 1 c.requires.inputs in
+    let h = place-holds input_limits c.args.ins.now 1 c.requires.inputs in
     record { above = omega (arith, ints); below = omega (arith, ints) }
 
 pub blend-requires-clause-volume : goal.blend-requires-clause-volume
 blend-requires-clause-volume c =
-    let h = volume-held c.args.self.now c.args.state.now c.requires.sound c.requires.states in
+    let h = volume-held c.args.self.now.limits c.args.state.now c.requires.sound.limits c.requires.states in
     record { above = omega (arith, ints); below = omega (arith, ints) }
 
 pub blend-requires-2-clause-old : goal.blend-requires-2-clause-old
 blend-requires-2-clause-old c =
-    let h = temp-held c.args.self.now c.args.state.now c.requires.sound c.requires.states in
+    let h = temp-held c.args.self.now.limits c.args.state.now c.requires.sound.limits c.requires.states in
     record { above = omega (arith, ints); below = omega (arith, ints) }
 
 pub blend-requires-2-clause-added : goal.blend-requires-2-clause-added
 blend-requires-2-clause-added c =
-    let h = input-held c.args.ins.now 2 c.requires.inputs in
+    let h = place-holds input_limits c.args.ins.now 2 c.requires.inputs in
     record { above = omega (arith, ints); below = omega (arith, ints) }
 
 pub blend-requires-2-clause-volume : goal.blend-requires-2-clause-volume
 blend-requires-2-clause-volume c =
-    let h = volume-held c.args.self.now c.args.state.now c.requires.sound c.requires.states in
+    let h = volume-held c.args.self.now.limits c.args.state.now c.requires.sound.limits c.requires.states in
     record { above = omega (arith, ints); below = omega (arith, ints) }
 
 pub returns : goal.returns
@@ -95,3 +97,63 @@ returns c =
     (same_cons _ _ _ _ (given1 (clamp tank.limits.flow) _ _ _ (search rules) c.clamp-2.ensures.value out)
     (same_cons _ _ _ _ (given1 (clamp tank.limits.conc) _ _ _ (search rules) c.clamp-3.ensures.value mixed)
     (same_cons _ _ _ _ (given1 (clamp tank.limits.temp) _ _ _ (search rules) c.clamp-4.ensures.value warmed) refl)))
+
+pub bounds-ins-0 : goal.bounds-ins-0
+bounds-ins-0 c = search rules
+
+pub bounds-ins-0-2 : goal.bounds-ins-0-2
+bounds-ins-0-2 c = search rules
+
+pub bounds-ins-0-3 : goal.bounds-ins-0-3
+bounds-ins-0-3 c = search rules
+
+pub bounds-ins-1 : goal.bounds-ins-1
+bounds-ins-1 c = search rules
+
+pub bounds-ins-2 : goal.bounds-ins-2
+bounds-ins-2 c = search rules
+
+pub bounds-ins-3 : goal.bounds-ins-3
+bounds-ins-3 c = search rules
+
+pub bounds-new-0 : goal.bounds-new-0
+bounds-new-0 c = search rules
+
+pub bounds-new-1 : goal.bounds-new-1
+bounds-new-1 c = search rules
+
+pub bounds-new-2 : goal.bounds-new-2
+bounds-new-2 c = search rules
+
+pub bounds-new-3 : goal.bounds-new-3
+bounds-new-3 c = search rules
+
+pub bounds-state-0 : goal.bounds-state-0
+bounds-state-0 c = search rules
+
+pub bounds-state-0-2 : goal.bounds-state-0-2
+bounds-state-0-2 c = search rules
+
+pub bounds-state-0-3 : goal.bounds-state-0-3
+bounds-state-0-3 c = search rules
+
+pub bounds-state-0-4 : goal.bounds-state-0-4
+bounds-state-0-4 c = search rules
+
+pub bounds-state-2 : goal.bounds-state-2
+bounds-state-2 c = search rules
+
+pub bounds-state-3 : goal.bounds-state-3
+bounds-state-3 c = search rules
+
+pub share-drained-requires : goal.share-drained-requires
+share-drained-requires c = search rules
+
+pub the-fitted-add-requires-clause-left : goal.the-fitted-add-requires-clause-left
+the-fitted-add-requires-clause-left c = search rules
+
+pub the-fitted-blend-requires-clause-added : goal.the-fitted-blend-requires-clause-added
+the-fitted-blend-requires-clause-added c = search rules
+
+pub the-fitted-blend-requires-clause-old : goal.the-fitted-blend-requires-clause-old
+the-fitted-blend-requires-clause-old c = search rules
