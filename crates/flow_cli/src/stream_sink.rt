@@ -1,12 +1,10 @@
 ghost use Rattle.std.specs.Prelude.{◌≡◌, None};
 ghost use Rattle.std.specs.Io.{WritesAtMost};
 
+use crate::stream_source::MOST_RETRIES;
 use flow_edge::{Sink, WriteFault};
 use std::io;
 use std::io::{ErrorKind, Stderr, Stdout, Write};
-
-/// How often a write that was interrupted is tried again.
-const MOST_RETRIES: u32 = 1000;
 
 /// A stream of the system as a sink. It tells no bytes, and counts a fault for each piece that it does not take whole.
 #[derive(Drop)]

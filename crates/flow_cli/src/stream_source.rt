@@ -5,8 +5,8 @@ use flow_edge::{ReadFault, Source};
 use std::io;
 use std::io::{ErrorKind, Read, Stdin};
 
-/// How often a read that was interrupted is tried again.
-const MOST_RETRIES: u32 = 1000;
+/// How often a read or a write that was interrupted is tried again.
+pub const MOST_RETRIES: u32 = 1000;
 
 /// A stream of the system as a source. It tells no bytes, and counts a fault for each read that fails.
 #[derive(Drop)]

@@ -5,6 +5,7 @@ pub mod Courses
 pub mod Work
 pub mod Causes
 pub mod PlantRows
+pub mod Channels
 pub mod RunRows
 pub mod RankRows
 pub mod StreamCount

@@ -8,7 +8,7 @@ use Rattle.parts.specs.declared.feeds.FeedKind.TheVariants.{Material, Signal}
 use Rattle.parts.specs.declared.units.UnitPart.{UnitPart}
 use Rattle.parts.specs.declared.units.KindPart.TheVariants.{Tank}
 
--- the band between two numbers that are not negative
+-- the band between two numbers
 abbrev pub between : ℤ → ℤ → Interval
 between lo hi = record { lo = lo; hi = hi }
 

@@ -1,4 +1,4 @@
-ghost use Rattle.std.specs.Prelude.{◌≡◌, ◌<◌, ◌≤◌, ◌*◌, ◌++◌, min, ℕ, ℤ, pos, List, [], ◌∷◌, length, Option, None};
+ghost use Rattle.std.specs.Prelude.{◌≡◌, ◌<◌, ◌≤◌, ◌*◌, ◌++◌, min, false, ℕ, ℤ, pos, List, [], ◌∷◌, length, map, slice_index_or, Option, None};
 ghost use Rattle.quant.specs.Interval.{AllHold, point, points};
 ghost use Rattle.flowsheet.specs.Trajectory.{IsTrajectory};
 ghost use Rattle.flowsheet.specs.Limited.{ArePoints};
@@ -8,7 +8,7 @@ ghost use Rattle.plant.specs.Sound.{IsPlant};
 ghost use Rattle.plant.specs.Streams.{streams_of};
 ghost use Rattle.plant.specs.Units.{plant_of, carried_of};
 ghost use Rattle.plant.specs.Rows.{streams_of_run};
-ghost use Rattle.report.specs.Output.{header, rank_header, rows_of};
+ghost use Rattle.report.specs.Output.{header, rank_header, rows_of, channels};
 ghost use Rattle.flow_top.specs.declared.words.Command.{Command};
 ghost use Rattle.flow_top.specs.declared.fault.Stop.{Stop};
 ghost use Rattle.flow_top.specs.Judged.{Judgement, IsJudged};
@@ -36,6 +36,12 @@ pub fn courses_print_the_run()
         at.course.stop ≡ None → text_of at.course ≡ header ++ all_rows at.parts }
     ensures check { (words : List (List ℕ)) (plant : SourceUse) (at : IsAtWork words plant) → at.command ≡ Command.Check →
         text_of at.course ≡ rank_header ++ rank_rows at.parts }
+
+    // Each channel of each stream has a band at each tick, and so a row.
+    ensures channels { (words : List (List ℕ)) (plant : SourceUse) (at : IsAtWork words plant) (tick s : ℕ) →
+        s < length (streams_of at.parts) →
+        length (streams_of_run at.parts tick s) ≡
+        length (channels (slice_index_or (map (λ stream. stream.signal) (streams_of at.parts)) s false)) }
 {}
 
 /// The bands that are printed for a plant hold each trajectory of it, at every tick that is printed, stream and channel.

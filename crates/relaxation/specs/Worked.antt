@@ -113,6 +113,13 @@ histories =
     (opening_version 0 ∷ []) ∷ (opening_version 1 ∷ [])
     ∷ (opening_version 2 ∷ outflow_version ∷ []) ∷ (opening_version 3 ∷ level_version ∷ []) ∷ []
 
+-- the same, but that the outflow's version names a version that is not there
+abbrev pub unsound : List History
+unsound =
+    (opening_version 0 ∷ []) ∷ (opening_version 1 ∷ [])
+    ∷ (opening_version 2 ∷ record outflow_version { refs = 0 ∷ 7 ∷ [] } ∷ [])
+    ∷ (opening_version 3 ∷ level_version ∷ []) ∷ []
+
 -- the two made versions, by their stamps
 abbrev pub gathered : List Made
 gathered =

@@ -4,7 +4,7 @@ ghost use Rattle.relaxation.specs.Core.{opening_versions, last_of, IsLegal, reac
 ghost use Rattle.relaxation.specs.Sweep.{IsSweep};
 ghost use Rattle.relaxation.specs.History.{AreSound};
 ghost use Rattle.relaxation.specs.Gathered.{IsGathered, step_of, tubes_of};
-ghost use Rattle.relaxation.specs.Worked.{window, outflow_step, level_step, early_step, outflow_tube, level_tube, histories, gathered};
+ghost use Rattle.relaxation.specs.Worked.{window, outflow_step, level_step, early_step, outflow_tube, level_tube, histories, unsound, gathered};
 
 /// A worked window of a tank: two steps from its feeds narrow its outflow and its level to the run, and it is then
 /// quiet. It is not quiet before any step, and a step that names a version which is not there is not legal.
@@ -31,6 +31,7 @@ pub fn worked_sweep()
 /// versions in the other order are not gathered.
 pub fn worked_histories()
     ensures sound { AreSound window histories }
+    ensures not_sound { AreSound window unsound → ⊥ }
     ensures gathered { IsGathered histories gathered }
     ensures not_gathered { IsGathered histories (reverse gathered) → ⊥ }
     ensures steps { map step_of gathered ≡ outflow_step ∷ level_step ∷ [] }
