@@ -5,10 +5,10 @@ ghost use Rattle.parts.specs.InRange.{ppm, from_to, IsReference, IsFeedBand, IsF
 
 use parts::{
     FeedBand, FeedKind, FeedPart, FeedParts, KindPart, OwnLimits, Parts, RatePoints, Texts,
-    UnitPart, UnitParts, Widths, is_name, is_reference,
+    UnitPart, UnitParts, Widths,
 };
 use plant::{Plant, Unbuilt};
-use plant_names::Text;
+use plant_names::{Text, is_name, is_reference};
 use quant::{Band, Limits};
 use std::alloc::Global;
 use std::test::Fail;
