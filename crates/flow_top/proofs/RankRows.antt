@@ -2,7 +2,8 @@
 use Rattle.std.proofs.Common.{◌≡◌, ◌∙◌, length}
 use Rattle.std.proofs.lemmas.List.{length-map}
 use Rattle.parts.specs.Parts.{FileParts}
-use Rattle.plant.specs.Units.{units_of, links_of, ranks_of, is_instant}
+use Rattle.plant_units.specs.Units.{units_of, is_instant}
+use Rattle.plant.specs.PlantOf.{links_of, ranks_of}
 use Rattle.plant.specs.Sound.{IsPlant}
 
 -- each unit of a plant has a rank

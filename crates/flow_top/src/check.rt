@@ -2,7 +2,8 @@
 
 ghost use Rattle.std.specs.Prelude.{◌≡◌, length, IfOk};
 ghost use Rattle.plant.specs.Sound.{IsPlant};
-ghost use Rattle.plant.specs.Units.{units_of, ranks_of};
+ghost use Rattle.plant_units.specs.Units.{units_of};
+ghost use Rattle.plant.specs.PlantOf.{ranks_of};
 ghost use Rattle.flow_top.specs.declared.words.Command.TheVariants.{Check};
 ghost use Rattle.flow_top.specs.Ended.{WorkEnded};
 ghost use Rattle.flow_top.specs.CheckCourse.{rank_rows};

@@ -1,17 +1,19 @@
 -- What stands at one place of a plant's units, its streams and their limits.
-use Rattle.std.proofs.Common.{◌≡◌, ℕ, zero, suc, ◌+◌, ◌<◌, List, [], ◌∷◌, length, map, get_or, refl, sym, ap, subst, ◌∙◌, arith, add-zero, zero-add}
+use Rattle.std.proofs.Common.{ℕ, ◌<◌, List, [], ◌∷◌, length, arith, ◌≡◌, map, get_or, sym, subst, ◌∙◌, zero, suc, ◌+◌, add-zero, zero-add, refl, ap}
 use Rattle.std.proofs.Math.ListN.{get_or-map}
 use Rattle.std.proofs.lemmas.List.{get_or_default, length-map}
 use Rattle.std.specs.Prelude.{slice_index_or}
 use Rattle.flowsheet.specs.Plant as sheet
 use Rattle.parts.specs.Parts.{FileParts}
-use Rattle.plant.specs.declared.streams.Stream.{Stream}
-use Rattle.plant.specs.declared.streams.StreamSource.{StreamSource}
-use Rattle.plant.specs.declared.streams.StreamSource.TheVariants as source
-use Rattle.plant.specs.declared.units.Unit.{Unit}
-use Rattle.plant.specs.Streams.{streams_of}
-use Rattle.plant.specs.Units.{units_of, plant_of, gives_of, sheet_unit, origin_in, source_at}
-use Rattle.plant.specs.Sound.{IsSoundUnit, AreSoundFrom, IsSource, ArePartsSound, outputs_at}
+use Rattle.plant_streams.specs.declared.streams.Stream.{Stream}
+use Rattle.plant_streams.specs.declared.streams.StreamSource.TheVariants as source
+use Rattle.plant_streams.specs.Streams.{streams_of}
+use Rattle.plant_streams.specs.declared.streams.StreamSource.{StreamSource}
+use Rattle.plant_streams.specs.Limits.{source_at}
+use Rattle.plant_units.specs.declared.units.Unit.{Unit}
+use Rattle.plant_units.specs.Units.{units_of, sheet_unit, gives_of}
+use Rattle.plant.specs.Sound.{IsSoundUnit, AreSoundFrom, outputs_at, IsSource, ArePartsSound}
+use Rattle.plant.specs.PlantOf.{plant_of, origin_in}
 
 -- there is an item at each place of a list
 pub item : {A : Type 0} (xs : List A) (n : ℕ) → n < length xs → A

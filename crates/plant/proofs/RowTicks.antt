@@ -1,15 +1,19 @@
 -- One tick: what all units have shown and stepped is the interval run's next row.
-use Rattle.std.proofs.Common.{◌≡◌, List, length, sym, ap, subst, ◌∙◌, arith}
+use Rattle.std.proofs.Common.{ℕ, suc, ◌≤◌, max, fold, List, [], ◌∷◌, arith, ◌≡◌, length, ◌∙◌, sym, subst, ap}
+use Rattle.std.specs.Prelude.{slice_index}
 use Rattle.quant.specs.Interval.{Interval, AllInside}
 use Rattle.flowsheet.specs.Plant as sheet
 use Rattle.flowsheet.specs.Reading.{on_bands, stepped}
 use Rattle.flowsheet.proofs.Readings.{same-kept, inputs-kept}
 use Rattle.parts.specs.Parts.{FileParts}
-use Rattle.plant.specs.Units.{units_of, ranks_of, plant_of}
-use Rattle.plant.specs.Rows.{RowBands, IsRow, IsStep}
-use Rattle.plant.specs.Sound.{limits_at, ArePartsSound}
-use Rattle.plant.specs.Steps.{bands_at, run_at, AreShown, AreStreams, AreStates, HaveStepped}
+use Rattle.plant_streams.specs.Limits.{limits_at}
+use Rattle.plant_units.specs.Units.{units_of}
+use Rattle.plant_units.specs.Steps.{bands_at}
+use Rattle.plant.specs.Steps.{greatest, AreStates, AreShown, AreStreams, HaveStepped, run_at}
+use Rattle.plant.specs.PlantOf.{ranks_of, plant_of}
 use Rattle.plant.proofs.Lookups.{units-counted, streams-counted}
+use Rattle.plant.specs.Rows.{IsRow, RowBands, IsStep}
+use Rattle.plant.specs.Sound.{ArePartsSound}
 use Rattle.plant.proofs.Rounds.{run-inside}
 
 -- as many ranks as units
@@ -53,3 +57,11 @@ step-of-tick parts before after ranked shown steps = record {
       (inputs-kept (same-kept (on_bands plant)) (sheet.unit_at plant u) (bands_at after.streams) (run_at parts before.states before.streams)
       (λ q c. shown.shown q (omega (arith, ranked.reads u q (omega (arith, units-counted parts)) c, streams-counted parts))));
 }
+
+-- the greatest of ranks is one of them, or 0
+fold-most : (a b : ℕ) (xs : List ℕ) → a ≤ b → ((u : ℕ) → slice_index xs u ≤ b) → fold max a xs ≤ b
+fold-most a b [] h k = h
+fold-most a b (x ∷ xs) h k = fold-most (max a x) b xs (omega (arith, k 0)) (λ u. k (suc u))
+
+pub greatest_most : (b : ℕ) (xs : List ℕ) → ((u : ℕ) → slice_index xs u ≤ b) → greatest xs ≤ b
+greatest_most b xs k = fold-most 0 b xs (omega arith) k

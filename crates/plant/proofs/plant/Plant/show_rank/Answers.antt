@@ -3,7 +3,7 @@ use Rattle.std.proofs.Common.{◌≡◌, ◌≢◌, ◌<◌, ◌+◌, List, leng
 use Rattle.std.specs.Prelude.{slice_index}
 use Rattle.quant.specs.Interval.{Interval}
 use Rattle.plant.specs.Steps.{rank_at, HaveShown, AreKept}
-use Rattle.plant.specs.Units.{units_of}
+use Rattle.plant_units.specs.Units.{units_of}
 use Rattle.plant.proofs.Rounds.{ready, kept-after, kept-more, have_shown-skip, have_shown-more, have_shown-rank}
 use Rattle.plant.proofs.plant.Plant.show_rank.Goals as goal
 use Rattle.plant.proofs.plant.Plant.show_rank.Goals.{then-ranks-number, else-ranks-number}

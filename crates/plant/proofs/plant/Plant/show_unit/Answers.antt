@@ -2,9 +2,9 @@
 use Rattle.std.proofs.Common.{◌≡◌, ◌<◌, List, length, get_or, ap, ◌∙◌, arith}
 use Rattle.std.proofs.lemmas.List.{get_or_default}
 use Rattle.quant.specs.Interval.{Interval}
-use Rattle.plant.specs.declared.units.Unit.{Unit}
-use Rattle.plant.specs.Steps.{bands_at, gathered, shows}
-use Rattle.plant.specs.Units.{units_of, reads_of}
+use Rattle.plant_units.specs.declared.units.Unit.{Unit}
+use Rattle.plant_units.specs.Steps.{bands_at, gathered, shows}
+use Rattle.plant_units.specs.Units.{units_of, reads_of}
 use Rattle.plant.proofs.Showing.{may-show, has-room, has-shown}
 use Rattle.plant.proofs.Rounds.{row-after}
 use Rattle.plant.proofs.plant.Plant.show_unit.Goals as goal

@@ -2,9 +2,10 @@
 use Rattle.std.proofs.Common.{◌≡◌, ◌<◌, List, [], length, get_or, set, ap, ◌∙◌, arith}
 use Rattle.std.proofs.lemmas.List.{get_or_default}
 use Rattle.quant.specs.Interval.{Interval}
-use Rattle.plant.specs.declared.units.Unit.{Unit}
-use Rattle.plant.specs.Steps.{gathered, steps, stepped_by}
-use Rattle.plant.specs.Units.{units_of, reads_of}
+use Rattle.plant_units.specs.declared.units.Unit.{Unit}
+use Rattle.plant_units.specs.Steps.{gathered, steps}
+use Rattle.plant.specs.Steps.{stepped_by}
+use Rattle.plant_units.specs.Units.{units_of, reads_of}
 use Rattle.plant.proofs.Stepping.{may-step, steps-are, states-after}
 use Rattle.plant.proofs.plant.Plant.step_unit.Goals as goal
 
