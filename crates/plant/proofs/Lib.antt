@@ -6,6 +6,7 @@ pub mod Lookups
 pub mod Numbers
 pub mod OwnLimits
 pub mod PlantLaws
+pub mod Ranked
 pub mod RateTables
 pub mod Rounds
 pub mod RowTicks

@@ -1,6 +1,5 @@
 -- One tick: what all units have shown and stepped is the interval run's next row.
-use Rattle.std.proofs.Common.{ℕ, suc, ◌≤◌, max, fold, List, [], ◌∷◌, arith, ◌≡◌, length, ◌∙◌, sym, subst, ap}
-use Rattle.std.specs.Prelude.{slice_index}
+use Rattle.std.proofs.Common.{List, arith, length, ◌∙◌, sym, subst, ap}
 use Rattle.quant.specs.Interval.{Interval, AllInside}
 use Rattle.flowsheet.specs.Plant as sheet
 use Rattle.flowsheet.specs.Reading.{on_bands, stepped}
@@ -9,17 +8,12 @@ use Rattle.parts.specs.Parts.{FileParts}
 use Rattle.plant_streams.specs.Limits.{limits_at}
 use Rattle.plant_units.specs.Units.{units_of}
 use Rattle.plant_units.specs.Steps.{bands_at}
-use Rattle.plant.specs.Steps.{greatest, AreStates, AreShown, AreStreams, HaveStepped, run_at}
-use Rattle.plant.specs.PlantOf.{ranks_of, plant_of}
+use Rattle.plant.specs.Steps.{AreStates, AreShown, AreStreams, HaveStepped, run_at}
+use Rattle.plant.specs.PlantOf.{plant_of}
 use Rattle.plant.proofs.Lookups.{units-counted, streams-counted}
 use Rattle.plant.specs.Rows.{IsRow, RowBands, IsStep}
 use Rattle.plant.specs.Sound.{ArePartsSound}
 use Rattle.plant.proofs.Rounds.{run-inside}
-
--- as many ranks as units
-pub ranks_counted : (parts : FileParts) → sheet.IsRanked (plant_of parts) → length (ranks_of parts) ≡ length (units_of parts)
-unfolding plant_of
-ranks_counted parts ranked = ranked.counted ∙ units-counted parts
 
 -- the states of a row
 pub states-of-row : (parts : FileParts) (states streams : List (List Interval)) → IsRow parts (record { states = states; streams = streams }) → AreStates parts states
@@ -57,11 +51,3 @@ step-of-tick parts before after ranked shown steps = record {
       (inputs-kept (same-kept (on_bands plant)) (sheet.unit_at plant u) (bands_at after.streams) (run_at parts before.states before.streams)
       (λ q c. shown.shown q (omega (arith, ranked.reads u q (omega (arith, units-counted parts)) c, streams-counted parts))));
 }
-
--- the greatest of ranks is one of them, or 0
-fold-most : (a b : ℕ) (xs : List ℕ) → a ≤ b → ((u : ℕ) → slice_index xs u ≤ b) → fold max a xs ≤ b
-fold-most a b [] h k = h
-fold-most a b (x ∷ xs) h k = fold-most (max a x) b xs (omega (arith, k 0)) (λ u. k (suc u))
-
-pub greatest_most : (b : ℕ) (xs : List ℕ) → ((u : ℕ) → slice_index xs u ≤ b) → greatest xs ≤ b
-greatest_most b xs k = fold-most 0 b xs (omega arith) k

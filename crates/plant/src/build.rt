@@ -2,6 +2,7 @@ mod made_links;
 mod made_ranks;
 
 ghost use Rattle.std.specs.Prelude.{◌≡◌, IfOk};
+ghost use Rattle.plant.specs.Sound.{IsPlant};
 ghost use Rattle.plant.specs.Verdict.{Builds};
 
 use crate::plant::Plant;
@@ -19,6 +20,7 @@ impl Plant {
     pub fn build(alloc: Global, parts: Parts) -> Result<Plant, Unbuilt>
         ensures exact { Builds result parts }
         ensures same { IfOk result (λ plant. plant ≡ parts) }
+        ensures plant { IfOk result (λ plant. IsPlant plant) }
     {
         let streams = streams_of(alloc, &parts)?;
         check_parts(alloc, &parts, streams.as_slice())?;

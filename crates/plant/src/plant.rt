@@ -25,7 +25,7 @@ impl Model for Plant {
 }
 
 impl Plant {
-    ghost use Rattle.std.specs.Prelude.{◌≡◌};
+    ghost use Rattle.std.specs.Prelude.{◌≡◌, length};
     ghost use Rattle.plant.specs.Sound.{IsPlant};
     ghost use Rattle.plant_streams.specs.Streams.{streams_of};
     ghost use Rattle.plant_units.specs.Units.{units_of};
@@ -54,8 +54,10 @@ impl Plant {
     }
 
     /// The rank of each unit: 0 where it holds something back, and else 1 plus the greatest rank among the units that it reads.
+    #[tactic(auto, using(crate::proofs::Ranked::plant_ranks_counted))]
     pub fn ranks(&self) -> &[u32]
-        ensures { result.now ≡ ranks_of self.now }
+        ensures ranks { result.now ≡ ranks_of self.now }
+        ensures counted { length (ranks_of self.now) ≡ length (units_of self.now) }
     {
         self.ranks.as_slice()
     }

@@ -35,7 +35,7 @@ impl Plant {
     }
 
     /// The ranks are right: one for each unit, and none too great.
-    #[tactic(auto, using(crate::proofs::RowTicks::greatest_most, crate::proofs::RowTicks::ranks_counted))]
+    #[tactic(auto, using(crate::proofs::Ranked::greatest_most, crate::proofs::Ranked::ranks_counted))]
     fn ranked(&self)
         ensures ranked { IsRanked (plant_of self.now) }
         ensures counted { length (ranks_of self.now) ≡ length (units_of self.now) }
