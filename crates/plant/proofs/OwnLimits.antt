@@ -1,22 +1,24 @@
 -- The limits of a plant and of its units are limits.
-use Rattle.std.proofs.Common.{◌≡◌, ℕ, zero, suc, ℤ, pos, ◌≤ℤ◌, List, [], ◌∷◌, map, slice_index_or, unwrap_or, Option, Some, None, Ok}
+use Rattle.std.proofs.Common.{ℤ, ◌≤ℤ◌, ◌≡◌, pos, Ok, unwrap_or, Option, Some, None, ℕ, zero, suc, List, [], ◌∷◌, map}
+use Rattle.std.proofs.Common.{slice_index_or}
 use Rattle.std.specs.Prelude.{IfSome}
 use Rattle.std.specs.List.{AllByRecursion}
 use Rattle.quant.specs.Interval.{Interval, IsBand, IsInside, wide}
-use Rattle.quant.specs.Limits.{AreLimits, wide_from}
+use Rattle.quant.specs.Limits.{wide_from, AreLimits}
 use Rattle.quant.specs.declared.limits.Limits.{Limits}
-use Rattle.parts.specs.Parts.{FileParts}
 use Rattle.parts.specs.InRange.{IsWide, AreWideLimits, AreOwnLimits, IsUnitPart, AreInRange}
 use Rattle.parts.specs.declared.units.UnitPart.{UnitPart}
-use Rattle.plant.specs.declared.fault.PlantFault.{PlantFault}
-use Rattle.plant.specs.declared.streams.StreamSource.{StreamSource}
-use Rattle.plant.specs.declared.streams.StreamSource.TheVariants as source
-use Rattle.plant.specs.Units.{limits_in, source_limits}
-use Rattle.plant.specs.Building.{refuse_if, each, own_begins_below, limits_check, own_limits_check}
-use Rattle.plant.proofs.Passed.{ArePassed, passes-both, passes-begins}
+use Rattle.parts.specs.Parts.{FileParts}
+use Rattle.plant_streams.specs.Limits.{limits_in, source_limits}
+use Rattle.plant_streams.specs.declared.streams.StreamSource.{StreamSource}
+use Rattle.plant_streams.specs.declared.streams.StreamSource.TheVariants as source
+use Rattle.plant_checks.specs.Checks.{refuse_if, limits_check, own_begins_below, own_limits_check, each}
+use Rattle.plant_checks.proofs.Passed.{passes-both, passes-begins, ArePassed}
+use Rattle.plant_checks.specs.declared.fault.PlantFault.{PlantFault}
 
 -- a wide band from a number on
-wide-from : (first : ℤ) (band : Interval) → IsWide band → first ≤ℤ band.lo → IsBand band × IsInside band (wide_from first)
+wide-from : (first : ℤ) (band : Interval) → IsWide band → first ≤ℤ band.lo →
+    IsBand band × IsInside band (wide_from first)
 wide-from first band w l = (w.0, record { above = l; below = (w.1).below })
 
 -- the plant's limits
@@ -60,13 +62,17 @@ own-limits limits u unit h w e =
     }
 
 -- those of each unit from number i on
-each-limits : (limits : Limits) (i : ℕ) (units : List UnitPart) (u : ℕ) → AreLimits limits → AllByRecursion IsUnitPart units →
-    each own_limits_check i units ≡ Ok tt → AreLimits (slice_index_or (map (λ unit. limits_in limits unit.limits) units) u limits)
+each-limits : (limits : Limits) (i : ℕ) (units : List UnitPart) (u : ℕ) → AreLimits limits →
+    AllByRecursion IsUnitPart units →
+    each own_limits_check i units ≡ Ok tt →
+    AreLimits (slice_index_or (map (λ unit. limits_in limits unit.limits) units) u limits)
 each-limits limits i [] u h w e = h
 each-limits limits i (unit ∷ units) zero h w e =
-    own-limits limits i unit h (w.0).limits (passes-both (own_limits_check i unit) (each own_limits_check (suc i) units) e).0
+    own-limits limits i unit h (w.0).limits
+    (passes-both (own_limits_check i unit) (each own_limits_check (suc i) units) e).0
 each-limits limits i (unit ∷ units) (suc u) h w e =
-    each-limits limits (suc i) units u h w.1 (passes-both (own_limits_check i unit) (each own_limits_check (suc i) units) e).1
+    each-limits limits (suc i) units u h w.1
+    (passes-both (own_limits_check i unit) (each own_limits_check (suc i) units) e).1
 
 -- and of each stream
 pub stream-limits : (parts : FileParts) (from : StreamSource) → AreInRange parts → ArePassed parts →

@@ -1,0 +1,3 @@
+pub mod AllKinds
+pub mod Making
+pub mod Spreads
