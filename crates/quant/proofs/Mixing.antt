@@ -9,7 +9,7 @@ use Rattle.quant.specs.Hull.{IsMonotone4}
 use Rattle.quant.specs.Rounding.{Rounding, quotient, divisor}
 use Rattle.quant.specs.Operation.{not_negative, blend, mix}
 use Rattle.quant.proofs.Division.{quotient-exact_whole}
-use Rattle.quant.proofs.Operations.{rises, falls, by_le_z, weighed, weighed-is, blend-is, blend-old, blend-added, blend-volume_up, blend-volume_down, blend-between, blend-around}
+use Rattle.quant.proofs.Operations.{IsDrawn, drawn-monotone, monotone4, weighed, weighed-is, blend-is, blend-old, blend-added, blend-volume, blend-between, blend-around}
 
 -- what a test tells
 passes : (b : Bool) → T b → b ≡ true
@@ -83,13 +83,25 @@ volume-rises : (k m n : ℤ) → k ≤ℤ m → volume k n ≤ℤ volume m n
 volume-rises k m n h = omega (arith, ints, clamps)
 
 -- it goes towards the first content with the first flow
-pub mix-first_flow_down : (r : Rounding) (c d k m n : ℤ) → c ≤ℤ d → k ≤ℤ m → mix r c d m n ≤ℤ mix r c d k n
-mix-first_flow_down r c d k m n p h =
-    omega (arith, ints, mix-is_blend r c d k n, mix-is_blend r c d m n, blend-volume_down r c d (not_negative n) (volume k n) (volume m n) p (volume-rises k m n h))
-
-pub mix-first_flow_up : (r : Rounding) (c d k m n : ℤ) → d ≤ℤ c → k ≤ℤ m → mix r c d k n ≤ℤ mix r c d m n
-mix-first_flow_up r c d k m n p h =
-    omega (arith, ints, mix-is_blend r c d k n, mix-is_blend r c d m n, blend-volume_up r c d (not_negative n) (volume k n) (volume m n) p (volume-rises k m n h))
+pub mix-first_flow : (r : Rounding) (c d n : ℤ) → IsDrawn d c (λ m. mix r c d m n)
+mix-first_flow r c d n =
+    let draws = blend-volume r c d (not_negative n) in
+    record {
+      up = λ k m p h. omega (
+        arith,
+        ints,
+        mix-is_blend r c d k n,
+        mix-is_blend r c d m n,
+        draws.up (volume k n) (volume m n) p (volume-rises k m n h),
+      );
+      down = λ k m p h. omega (
+        arith,
+        ints,
+        mix-is_blend r c d k n,
+        mix-is_blend r c d m n,
+        draws.down (volume k n) (volume m n) p (volume-rises k m n h),
+      );
+    }
 
 -- it lies between the contents
 pub mix-between : (r : Rounding) (c d m n : ℤ) → Holds (join (point c) (point d)) (mix r c d m n)
@@ -104,38 +116,37 @@ mix-second_alone r c d m n h k =
     ∙ ap (λ t. blend r d c t (volume n m)) none
     ∙ blend-nothing r d c (volume n m) (omega (arith, ints, clamps))
 
--- it goes towards the second content with the second flow
-pub mix-second_flow_up : (r : Rounding) (c d m k n : ℤ) → c ≤ℤ d → k ≤ℤ n → mix r c d m k ≤ℤ mix r c d m n
-mix-second_flow_up r c d m k n p h =
+-- with less and with more of the second flow a mix is one of the mixes turned round where the first flows, twice the second
+-- content where the second alone does, and else first the first content
+two-mixes : (P : ℤ → ℤ → Type 0) (r : Rounding) (c d m k n : ℤ) → k ≤ℤ n → P (mix r d c k m) (mix r d c n m) → P d d →
+    P c (mix r c d m n) → P (mix r c d m k) (mix r c d m n)
+two-mixes P r c d m k n h turned alone still =
     by_lt_z (pos 0) m
-    (λ l. omega (arith, ints, clamps, mix-swaps r c d m k (omega (arith, ints, clamps)), mix-swaps r c d m n (omega (arith, ints, clamps)), mix-first_flow_up r d c k n m p h))
+    (λ l.
+    subst (λ x. P x (mix r c d m n)) (sym (mix-swaps r c d m k (omega (arith, ints, clamps))))
+    (subst (P (mix r d c k m)) (sym (mix-swaps r c d m n (omega (arith, ints, clamps)))) turned))
     (λ l. by_lt_z (pos 0) k
-    (λ s. omega (arith, ints, mix-second_alone r c d m k l (omega (arith, ints)), mix-second_alone r c d m n l (omega (arith, ints))))
     (λ s.
-    let b = mix-between r c d m n in
-    omega (arith, ints, clamps, mix-still r c d m k (omega (arith, ints, clamps)))))
+    subst (λ x. P x (mix r c d m n)) (sym (mix-second_alone r c d m k l (omega (arith, ints))))
+    (subst (P d) (sym (mix-second_alone r c d m n l (omega (arith, ints)))) alone))
+    (λ s. subst (λ x. P x (mix r c d m n)) (sym (mix-still r c d m k (omega (arith, ints, clamps)))) still))
 
-pub mix-second_flow_down : (r : Rounding) (c d m k n : ℤ) → d ≤ℤ c → k ≤ℤ n → mix r c d m n ≤ℤ mix r c d m k
-mix-second_flow_down r c d m k n p h =
-    by_lt_z (pos 0) m
-    (λ l. omega (arith, ints, clamps, mix-swaps r c d m k (omega (arith, ints, clamps)), mix-swaps r c d m n (omega (arith, ints, clamps)), mix-first_flow_down r d c k n m p h))
-    (λ l. by_lt_z (pos 0) k
-    (λ s. omega (arith, ints, mix-second_alone r c d m k l (omega (arith, ints)), mix-second_alone r c d m n l (omega (arith, ints))))
-    (λ s.
-    let b = mix-between r c d m n in
-    omega (arith, ints, clamps, mix-still r c d m k (omega (arith, ints, clamps)))))
+-- it goes towards the second content with the second flow
+pub mix-second_flow : (r : Rounding) (c d m : ℤ) → IsDrawn c d (mix r c d m)
+mix-second_flow r c d m =
+    let draws = mix-first_flow r d c m in
+    record {
+      up = λ k n p h.
+          let b = mix-between r c d m n in
+          two-mixes (λ x y. x ≤ℤ y) r c d m k n h (draws.up k n p h) (omega (arith, ints)) (omega (arith, ints, clamps));
+      down = λ k n p h.
+          let b = mix-between r c d m n in
+          two-mixes (λ x y. y ≤ℤ x) r c d m k n h (draws.down k n p h) (omega (arith, ints)) (omega (arith, ints, clamps));
+    }
 
 pub mix-monotone : (r : Rounding) → IsMonotone4 (mix r)
-mix-monotone r = (
-  (λ d m n. rises (λ c. mix r c d m n) (λ a b h. mix-first r a b d m n h)),
-  (λ c. (
-    (λ m n. rises (λ d. mix r c d m n) (λ a b h. mix-second r c a b m n h)),
-    (λ d. (
-      (λ n. by_le_z c d (λ p. falls (λ m. mix r c d m n) (λ k m h. mix-first_flow_down r c d k m n p h)) (λ p. rises (λ m. mix r c d m n) (λ k m h. mix-first_flow_up r c d k m n p h))),
-      (λ m. by_le_z c d (λ p. rises (mix r c d m) (λ k n h. mix-second_flow_up r c d m k n p h)) (λ p. falls (mix r c d m) (λ k n h. mix-second_flow_down r c d m k n p h))),
-    )),
-  )),
-)
+mix-monotone r = monotone4 (mix r) (mix-first r) (mix-second r) (λ c d n. drawn-monotone d c (λ m. mix r c d m n) (mix-first_flow r c d n))
+    (λ c d m. drawn-monotone c d (mix r c d m) (mix-second_flow r c d m))
 
 -- so it fits where they do
 pub mix-around : (r : Rounding) (c d m n : ℤ) (k : ℕ) → Holds (around k) c → Holds (around k) d → Holds (around k) (mix r c d m n)

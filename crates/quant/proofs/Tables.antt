@@ -10,10 +10,7 @@ use Rattle.quant.specs.Operation.{not_negative, part, passed, risen, lookup}
 use Rattle.quant.specs.Interval.{Holds}
 use Rattle.quant.specs.Table.{rates, HasRate, IsStep, AreSteps, IsTable}
 use Rattle.quant.proofs.Division.{le-times, one-le_divisor, quotient-rises, quotient-exact, quotient-floor}
-use Rattle.quant.proofs.Operations.{rises}
-
-part-rises : (w m n : ℤ) → m ≤ℤ n → part w m ≤ℤ part w n
-part-rises w m n h = omega (arith, ints, clamps)
+use Rattle.quant.proofs.Operations.{rises, part-rises}
 
 passed-rises : (r : Rounding) (from to : ℤ × ℤ) (t u : ℤ) → t ≤ℤ u → passed r from to t ≤ℤ passed r from to u
 passed-rises r from to t u h =

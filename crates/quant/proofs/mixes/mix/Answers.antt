@@ -1,10 +1,10 @@
 use Rattle.std.proofs.Common.{rules, ◌≡◌, pos, ◌+ℤ◌, ◌*ℤ◌, ℤ, ◌≤ℤ◌, to_z, of_z, sym, ◌∙◌, ap, subst, arith}
 use Rattle.std.proofs.lemmas.Int.{ints, clamps, to_z-of_z}
 use Rattle.std.specs.Int.{w64, w128}
-use Rattle.quant.specs.Interval.{Holds, around, join, point}
+use Rattle.quant.specs.Interval.{Holds, join, point}
 use Rattle.quant.specs.Rounding.{quotient, Floor}
-use Rattle.quant.specs.Operation.{mix, flows, not_negative}
-use Rattle.quant.proofs.Casts.{product-around, same-product, sum-fits, sum-back}
+use Rattle.quant.specs.Operation.{mix, flows, not_negative, amounts, greatest_amount, greatest_content}
+use Rattle.quant.proofs.Casts.{product-around, same-product, sum-fits, sum-back, products}
 use Rattle.quant.proofs.Mixing.{both, mix-flows, mix-still, mix-between, mix-around}
 use Rattle.quant.proofs.mixes.mix.Goals as goal
 
@@ -16,20 +16,20 @@ returns-then-both-eq0-clause-value c =
     to_z-of_z w64 c.args.c c.ranges.c ∙ sym (mix-still Floor c.args.c c.args.d c.args.m c.args.n (omega (arith, ints, clamps)))
 
 -- the two products are those of the definition
-flow-around : (m : ℤ) → Holds flows m → Holds (around 10000000000000) m
+flow-around : (m : ℤ) → Holds flows m → Holds amounts m
 flow-around m h = record { above = omega (arith, ints); below = omega (arith, ints) }
 
 first : (c : goal.After-from-4) → to_z w128 (of_z w128 c.from.result) *ℤ to_z w128 (of_z w128 c.from-2.result) ≡ c.args.c *ℤ c.args.m
 first c = same-product (to_z w128 (of_z w128 c.from.result)) (to_z w128 (of_z w128 c.from-2.result)) c.args.c c.args.m (omega (arith, ints)) (omega (arith, ints))
 
-first-around : (c : goal.After-from-4) → Holds (around 100000000000000000000000000000) (c.args.c *ℤ c.args.m)
-first-around c = product-around c.args.c c.args.m 10000000000000000 10000000000000 c.requires.first (flow-around c.args.m c.requires.first_flow)
+first-around : (c : goal.After-from-4) → Holds products (c.args.c *ℤ c.args.m)
+first-around c = product-around c.args.c c.args.m greatest_content greatest_amount c.requires.first (flow-around c.args.m c.requires.first_flow)
 
 second : (c : goal.After-from-4) → to_z w128 (of_z w128 c.from-3.result) *ℤ to_z w128 (of_z w128 c.from-4.result) ≡ c.args.d *ℤ c.args.n
 second c = same-product (to_z w128 (of_z w128 c.from-3.result)) (to_z w128 (of_z w128 c.from-4.result)) c.args.d c.args.n (omega (arith, ints)) (omega (arith, ints))
 
-second-around : (c : goal.After-from-4) → Holds (around 100000000000000000000000000000) (c.args.d *ℤ c.args.n)
-second-around c = product-around c.args.d c.args.n 10000000000000000 10000000000000 c.requires.second (flow-around c.args.n c.requires.second_flow)
+second-around : (c : goal.After-from-4) → Holds products (c.args.d *ℤ c.args.n)
+second-around c = product-around c.args.d c.args.n greatest_content greatest_amount c.requires.second (flow-around c.args.n c.requires.second_flow)
 
 pub overflow_add-weighed : goal.overflow_add-weighed
 overflow_add-weighed c =
@@ -68,7 +68,7 @@ mixed c =
 pub floor_quotient-requires-clause-fits : goal.floor_quotient-requires-clause-fits
 floor_quotient-requires-clause-fits c =
     let e = mixed c in
-    let h = mix-around Floor c.args.c c.args.d c.args.m c.args.n 10000000000000000 c.requires.first c.requires.second in
+    let h = mix-around Floor c.args.c c.args.d c.args.m c.args.n greatest_content c.requires.first c.requires.second in
     omega (arith, ints)
 
 pub returns-clause-value : goal.returns-clause-value

@@ -3,9 +3,9 @@ use Rattle.std.proofs.lemmas.Int.{ints, to_z-of_z}
 use Rattle.std.specs.Int.{w64, w128}
 use Rattle.quant.specs.Interval.{Holds, around}
 use Rattle.quant.specs.Rounding.{quotient, Floor}
-use Rattle.quant.specs.Operation.{tray, kept, million}
+use Rattle.quant.specs.Operation.{tray, kept, million, contents, greatest_content, heaviest, stage_contents}
 use Rattle.quant.proofs.Calls.{given4}
-use Rattle.quant.proofs.Casts.{product-around, same-product, three-fit, three-back}
+use Rattle.quant.proofs.Casts.{product-around, same-product, three-fit, three-back, stage_products}
 use Rattle.quant.proofs.Stages.{divided, kept-weighs, tray-around}
 use Rattle.quant.proofs.trays.tray.Goals.{After-product-own, After-product-above, After-product-below}
 use Rattle.quant.proofs.trays.tray.Goals as goal
@@ -25,27 +25,27 @@ below : (c : After-product-below) → c.product-below.result ≡ c.args.yb *ℤ 
 below c = c.product-below.ensures ∙ same-product _ _ c.args.yb (c.args.v *ℤ million) (to_z-of_z w64 c.args.yb c.ranges.yb) (omega (arith, ints))
 
 -- and so small that their sum fits
-own-around : (c : After-product-own) → Holds (around 10000000000000000000000000000000000) c.product-own.result
+own-around : (c : After-product-own) → Holds stage_products c.product-own.result
 own-around c =
     let o = c.requires.own in
-    let content : Holds (around 10000000000000000) c.args.x = record { above = omega (arith, ints); below = omega (arith, ints) } in
+    let content : Holds contents c.args.x = record { above = omega (arith, ints); below = omega (arith, ints) } in
     let h = kept-weighs c.args.holdup c.args.slope c.args.l c.args.v c.requires.holdup c.requires.slope c.requires.liquid c.requires.vapour c.requires.drainable in
-    let size : Holds (around 1000000000000000000) (kept c.args.holdup c.args.slope c.args.l c.args.v) = record { above = omega (arith, ints); below = omega (arith, ints) } in
-    subst (Holds (around 10000000000000000000000000000000000)) (sym (own c)) (product-around c.args.x (kept c.args.holdup c.args.slope c.args.l c.args.v) 10000000000000000 1000000000000000000 content size)
+    let size : Holds (around heaviest) (kept c.args.holdup c.args.slope c.args.l c.args.v) = record { above = omega (arith, ints); below = omega (arith, ints) } in
+    subst (Holds stage_products) (sym (own c)) (product-around c.args.x (kept c.args.holdup c.args.slope c.args.l c.args.v) greatest_content heaviest content size)
 
-above-around : (c : After-product-above) → Holds (around 10000000000000000000000000000000000) c.product-above.result
+above-around : (c : After-product-above) → Holds stage_products c.product-above.result
 above-around c =
     let o = c.requires.above in
-    let content : Holds (around 10000000000000000) c.args.xa = record { above = omega (arith, ints); below = omega (arith, ints) } in
+    let content : Holds contents c.args.xa = record { above = omega (arith, ints); below = omega (arith, ints) } in
     let h = c.requires.liquid in
-    let size : Holds (around 1000000000000000000) (c.args.l *ℤ million) = record { above = omega (arith, ints); below = omega (arith, ints) } in
-    subst (Holds (around 10000000000000000000000000000000000)) (sym (above c)) (product-around c.args.xa (c.args.l *ℤ million) 10000000000000000 1000000000000000000 content size)
+    let size : Holds (around heaviest) (c.args.l *ℤ million) = record { above = omega (arith, ints); below = omega (arith, ints) } in
+    subst (Holds stage_products) (sym (above c)) (product-around c.args.xa (c.args.l *ℤ million) greatest_content heaviest content size)
 
-below-around : (c : After-product-below) → Holds (around 10000000000000000000000000000000000) c.product-below.result
+below-around : (c : After-product-below) → Holds stage_products c.product-below.result
 below-around c =
     let h = c.requires.vapour in
-    let size : Holds (around 1000000000000000000) (c.args.v *ℤ million) = record { above = omega (arith, ints); below = omega (arith, ints) } in
-    subst (Holds (around 10000000000000000000000000000000000)) (sym (below c)) (product-around c.args.yb (c.args.v *ℤ million) 10000000000000000 1000000000000000000 c.requires.below size)
+    let size : Holds (around heaviest) (c.args.v *ℤ million) = record { above = omega (arith, ints); below = omega (arith, ints) } in
+    subst (Holds stage_products) (sym (below c)) (product-around c.args.yb (c.args.v *ℤ million) greatest_content heaviest c.requires.below size)
 
 pub overflow_mul-v : goal.overflow_mul-v
 overflow_mul-v c = let h = c.requires.vapour in omega (arith, ints)
@@ -85,7 +85,7 @@ returns-clause-value c = let e = c.floor_quotient.ensures ∙ divides c.before i
 
 pub returns-clause-size : goal.returns-clause-size
 returns-clause-size c =
-    subst (Holds (around 20000000000000000)) (sym (returns-clause-value c))
+    subst (Holds stage_contents) (sym (returns-clause-value c))
     (tray-around Floor c.args.holdup c.args.slope c.args.x c.args.xa c.args.yb c.args.l c.args.v c.requires.own c.requires.above c.requires.below
     c.requires.holdup c.requires.slope c.requires.liquid c.requires.vapour c.requires.drainable)
 
