@@ -2,7 +2,7 @@
 use Rattle.std.proofs.Common.{◌≡◌, ℕ, zero, suc, ◌+◌, ◌-◌, ◌*◌, ◌<◌, ◌≤◌, ℤ, pos, ◌+ℤ◌, List, [], ◌∷◌, length, get_or, refl, sym, ap, subst, ◌∙◌, arith}
 use Rattle.std.proofs.lemmas.Int.{ints}
 use Rattle.std.specs.Prelude.{slice_index_or}
-use Rattle.quant.specs.Interval.{Interval, Holds, IsInside, AllHold, AllInside, wide, point}
+use Rattle.quant.specs.Interval.{Interval, Holds, IsInside, AllHold, AllInside, wide, widest, point}
 use Rattle.quant.specs.Limits.{wide_from}
 use Rattle.quant.specs.Hull.{hull2, hull4, IsHull, IsValue2}
 use Rattle.quant.specs.Rounding.{Floor}
@@ -48,7 +48,7 @@ channel-inside n i c p ins r h k l e g =
 
 -- the flows of n streams together
 abbrev pub flows_of : ℕ → Interval
-flows_of n = record { lo = pos 0; hi = pos (1000000000000 * n) }
+flows_of n = record { lo = pos 0; hi = pos (widest * n) }
 
 -- the streams before i are mixed, as numbers
 pub record AreMixed (ins : List ℤ) (i : ℕ) (flow conc temp : ℤ) : Type 0 where

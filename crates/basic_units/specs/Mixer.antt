@@ -3,6 +3,7 @@ use Rattle.std.specs.Prelude.{ℕ, zero, suc, ◌+◌, ◌-◌, ◌*◌, ◌≤�
 use Rattle.quant.specs.Interval.{Interval, wide}
 use Rattle.quant.specs.Limits.{AreLimits, wide_from}
 use Rattle.quant.specs.Term.{Term, input, sum, mix_of, clamped}
+use Rattle.basic_units.specs.Stream.{stream_limits}
 use Rattle.basic_units.specs.declared.mixer.Mixer.{Mixer}
 
 -- the flow of the first stream and n further ones
@@ -23,7 +24,7 @@ now_terms mixer =
     ∷ []
 
 abbrev pub output_limits : Mixer → List (List Interval)
-output_limits mixer = (mixer.limits.flow ∷ mixer.limits.conc ∷ mixer.limits.temp ∷ []) ∷ []
+output_limits mixer = stream_limits mixer.limits ∷ []
 
 -- where the channels of n streams may lie: no flow is negative
 abbrev pub streams : ℕ → List Interval

@@ -8,6 +8,10 @@ use Rattle.quant.specs.Rounding.{Rounding, quotient, divisor}
 abbrev pub million : ℤ
 million = pos 1000000
 
+-- the ppm of a part of a whole
+abbrev pub ppm : Interval
+ppm = record { lo = pos 0; hi = million }
+
 -- the nearest number of the interval
 unfoldable pub clamp : Interval → ℤ → ℤ
 clamp limits a = int_max limits.lo (int_min a limits.hi)
