@@ -8,7 +8,7 @@ use Rattle.quant.specs.Hull.{hull2, hull4, IsHull, IsValue2}
 use Rattle.quant.specs.Rounding.{Floor}
 use Rattle.quant.specs.Operation.{mix}
 use Rattle.quant.specs.Term.{value, interval}
-use Rattle.quant.proofs.Calls.{read-inside, inside-length}
+use Rattle.quant.proofs.Calls.{read-inside, held-length, inside-length}
 use Rattle.quant.proofs.Terms.{place-holds, place-inside}
 use Rattle.basic_units.specs.Mixer.{flow_of, content_of, streams}
 
@@ -45,6 +45,13 @@ channel-inside n i c p ins r h k l e g =
     let m = inside-length ins (streams n) h in
     read-inside ins p r _ (omega (arith, streams-length n)) g
     (subst (λ (A : Interval). IsInside (slice_index_or ins p (point (pos 0))) A) (stream-at n i c p k l e) (place-inside ins (streams n) p h))
+
+-- and their places are there
+pub channel-room : (n i channel : ℕ) (ins : List ℤ) → AllHold (streams n) ins → i < n → channel < 3 → 3 * i + channel < length ins
+channel-room n i c ins h k l = omega (arith, held-length (streams n) ins h, streams-length n)
+
+pub channel-room_bands : (n i channel : ℕ) (ins : List Interval) → AllInside ins (streams n) → i < n → channel < 3 → 3 * i + channel < length ins
+channel-room_bands n i c ins h k l = omega (arith, inside-length ins (streams n) h, streams-length n)
 
 -- the flows of n streams together
 abbrev pub flows_of : ℕ → Interval

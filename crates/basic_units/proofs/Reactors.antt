@@ -1,13 +1,12 @@
 -- How much a reaction heats, and where the contents of a reactor lie.
-use Rattle.std.proofs.Common.{◌≡◌, ℕ, ◌*◌, ◌^◌, ℤ, pos, neg_ℤ, ◌+ℤ◌, ◌*ℤ◌, ◌≤ℤ◌, to_z, of_z, sym, subst, ap, arith}
+use Rattle.std.proofs.Common.{◌≡◌, ℕ, ◌*◌, ◌^◌, ℤ, pos, ◌+ℤ◌, to_z, of_z, sym, subst, ap, arith, refl}
 use Rattle.std.proofs.lemmas.Int.{ints, clamps}
 use Rattle.std.specs.Int.{w64}
 use Rattle.quant.specs.Interval.{Interval, Holds, IsBand, IsInside, around, join, wide, widest, point}
 use Rattle.quant.specs.Hull.{hull1, hull2}
-use Rattle.quant.specs.Rounding.{Rounding, Floor, divisor}
-use Rattle.quant.specs.Operation.{million, gains, steepest, contents, gain}
-use Rattle.quant.proofs.Casts.{product-around}
-use Rattle.quant.proofs.Division.{quotient-rises, quotient-exact}
+use Rattle.quant.specs.Rounding.{Rounding, Floor}
+use Rattle.quant.specs.Operation.{gains, steepest, contents, gain}
+use Rattle.quant.proofs.Operations.{gain-within}
 
 -- the greatest warming by a conc in the limits
 abbrev warmest : ℕ
@@ -18,15 +17,7 @@ warmings = around warmest
 
 -- what heats, of a conc in the limits
 pub heats : (r : Rounding) (k a : ℤ) → Holds wide a → Holds gains k → Holds warmings (gain r k a)
-unfolding gain
-heats r k a h p =
-    let n = product-around a k widest steepest h p in
-    let low : (neg_ℤ (pos warmest) *ℤ divisor million) ≤ℤ (a *ℤ k) = omega (arith, ints, clamps) in
-    let high : (a *ℤ k) ≤ℤ (pos warmest *ℤ divisor million) = omega (arith, ints, clamps) in
-    record {
-      above = omega (arith, ints, quotient-rises r (neg_ℤ (pos warmest) *ℤ divisor million) (a *ℤ k) million low, quotient-exact r (neg_ℤ (pos warmest)) million);
-      below = omega (arith, ints, quotient-rises r (a *ℤ k) (pos warmest *ℤ divisor million) million high, quotient-exact r (pos warmest) million);
-    }
+heats r k a h p = gain-within r k a widest steepest warmest refl h p
 
 -- what the calls give lies where their arguments do
 pub blended-wide : (a b z : ℤ) → Holds wide a → Holds wide b → Holds (join (point (to_z w64 (of_z w64 a))) (point (to_z w64 (of_z w64 b)))) z → Holds wide z

@@ -9,7 +9,7 @@ use Rattle.quant.specs.Hull.{IsMonotone4}
 use Rattle.quant.specs.Rounding.{Rounding, quotient, divisor}
 use Rattle.quant.specs.Operation.{not_negative, blend, mix}
 use Rattle.quant.proofs.Division.{quotient-exact_whole}
-use Rattle.quant.proofs.Operations.{IsDrawn, drawn-monotone, monotone4, weighed, weighed-is, blend-is, blend-old, blend-added, blend-volume, blend-between, blend-around}
+use Rattle.quant.proofs.Operations.{IsDrawn, drawn-after, drawn-monotone, monotone4, weighed, weighed-is, blend-is, blend-old, blend-added, blend-volume, blend-between, blend-around}
 
 -- what a test tells
 passes : (b : Bool) → T b → b ≡ true
@@ -85,23 +85,8 @@ volume-rises k m n h = omega (arith, ints, clamps)
 -- it goes towards the first content with the first flow
 pub mix-first_flow : (r : Rounding) (c d n : ℤ) → IsDrawn d c (λ m. mix r c d m n)
 mix-first_flow r c d n =
-    let draws = blend-volume r c d (not_negative n) in
-    record {
-      up = λ k m p h. omega (
-        arith,
-        ints,
-        mix-is_blend r c d k n,
-        mix-is_blend r c d m n,
-        draws.up (volume k n) (volume m n) p (volume-rises k m n h),
-      );
-      down = λ k m p h. omega (
-        arith,
-        ints,
-        mix-is_blend r c d k n,
-        mix-is_blend r c d m n,
-        draws.down (volume k n) (volume m n) p (volume-rises k m n h),
-      );
-    }
+    drawn-after d c (blend r c d (not_negative n)) (λ m. volume m n) (λ m. mix r c d m n) (blend-volume r c d (not_negative n))
+    (λ k m h. volume-rises k m n h) (λ m. mix-is_blend r c d m n)
 
 -- it lies between the contents
 pub mix-between : (r : Rounding) (c d m n : ℤ) → Holds (join (point c) (point d)) (mix r c d m n)

@@ -1,5 +1,5 @@
 -- Each operation is monotone in each argument.
-use Rattle.std.proofs.Common.{◌≡◌, ℕ, ℤ, pos, ◌+ℤ◌, ◌-ℤ◌, ◌*ℤ◌, neg_ℤ, ◌≤ℤ◌, arith, refl, sym, ap, ◌∙◌}
+use Rattle.std.proofs.Common.{◌≡◌, ℕ, ◌*◌, ℤ, pos, ◌+ℤ◌, ◌-ℤ◌, ◌*ℤ◌, neg_ℤ, ◌≤ℤ◌, arith, refl, sym, ap, ◌∙◌}
 use Rattle.std.proofs.lemmas.Int.{ints, clamps, by_lt_z}
 use Rattle.std.proofs.Math.IntN.{*ℤ_comm}
 use Rattle.quant.specs.Interval.{Interval, Holds, join, point, around}
@@ -33,6 +33,14 @@ pub quotient-drawn : (r : Rounding) (c d : ℤ) (f : ℤ → ℤ) (w : ℤ) → 
 quotient-drawn r c d f w h = record {
   up = λ x y p l. quotient-rises r (f x) (f y) w (h.up x y p l);
   down = λ x y p l. quotient-rises r (f y) (f x) w (h.down x y p l);
+}
+
+-- and so is what it makes of something that rises
+pub drawn-after : (c d : ℤ) (f u g : ℤ → ℤ) → IsDrawn c d f → ((x y : ℤ) → x ≤ℤ y → u x ≤ℤ u y) → ((x : ℤ) → g x ≡ f (u x)) →
+    IsDrawn c d g
+drawn-after c d f u g h m e = record {
+  up = λ x y p l. omega (arith, ints, e x, e y, h.up (u x) (u y) p (m x y l));
+  down = λ x y p l. omega (arith, ints, e x, e y, h.down (u x) (u y) p (m x y l));
 }
 
 -- what is monotone in each argument, its first two upward
@@ -199,26 +207,21 @@ blend-added r c a b m v h =
     quotient-rises r (weighed c a w n) (weighed c b w n) w (omega (arith, ints, times-le a b n (part-above w m) h))
 
 -- it rises with the part where what is added is not less, and else falls
+weighed-steps : (c d w m n : ℤ) → ((d -ℤ c) *ℤ m) ≤ℤ ((d -ℤ c) *ℤ n) → weighed c d w m ≤ℤ weighed c d w n
+weighed-steps c d w m n h = omega (arith, ints, weighed-is c d w m, weighed-is c d w n)
+
+weighed-drawn : (c d w : ℤ) → IsDrawn c d (weighed c d w)
+weighed-drawn c d w = record {
+  up = λ m n p h. weighed-steps c d w m n (le-times m n (d -ℤ c) (omega (arith, ints)) h);
+  down = λ m n p h. weighed-steps c d w n m (ge-times m n (d -ℤ c) (omega (arith, ints)) h);
+}
+
 pub blend-part : (r : Rounding) (c d v : ℤ) → IsDrawn c d (λ m. blend r c d m v)
 unfolding blend
 blend-part r c d v =
     let w = divisor v in
-    quotient-drawn r c d (λ m. weighed c d w (part w m)) w (record {
-      up = λ m n p h. omega (
-        arith,
-        ints,
-        weighed-is c d w (part w m),
-        weighed-is c d w (part w n),
-        le-times (part w m) (part w n) (d -ℤ c) (omega (arith, ints)) (part-rises w m n h),
-      );
-      down = λ m n p h. omega (
-        arith,
-        ints,
-        weighed-is c d w (part w m),
-        weighed-is c d w (part w n),
-        ge-times (part w m) (part w n) (d -ℤ c) (omega (arith, ints)) (part-rises w m n h),
-      );
-    })
+    drawn-after c d (λ n. quotient r (weighed c d w n) w) (part w) (λ m. blend r c d m v)
+    (quotient-drawn r c d (weighed c d w) w (weighed-drawn c d w)) (part-rises w) (λ m. refl)
 
 -- of a greater whole a part is no greater a share
 cross-same : (k n w u : ℤ) → k ≡ n → pos 0 ≤ℤ n → w ≤ℤ u → (k *ℤ w) ≤ℤ (n *ℤ u)
@@ -323,17 +326,21 @@ zero-around n = record { above = omega (arith, ints); below = omega (arith, ints
 pub share-around : (r : Rounding) (a g : ℤ) (n : ℕ) → Holds (around n) a → Holds (around n) (share r a g)
 share-around r a g n h = between-around (pos 0) a (share r a g) n (zero-around n) h (share-between r a g)
 
--- a gain of an amount
-pub gain-around : (r : Rounding) (k a : ℤ) → Holds amounts a → Holds gains k → Holds contents (gain r k a)
+-- a gain of a number up to m in size by ppm up to p
+pub gain-within : (r : Rounding) (k a : ℤ) (m p n : ℕ) → m * p ≡ n * 1000000 → Holds (around m) a → Holds (around p) k →
+    Holds (around n) (gain r k a)
 unfolding gain
-gain-around r k a h p =
-    let n = product-around a k greatest_amount steepest h p in
-    let low : (neg_ℤ (pos greatest_content) *ℤ divisor million) ≤ℤ (a *ℤ k) = omega (arith, ints, clamps) in
-    let high : (a *ℤ k) ≤ℤ (pos greatest_content *ℤ divisor million) = omega (arith, ints, clamps) in
+gain-within r k a m p n e h i =
+    let size = product-around a k m p h i in
+    let low : (neg_ℤ (pos n) *ℤ divisor million) ≤ℤ (a *ℤ k) = omega (arith, ints, clamps) in
+    let high : (a *ℤ k) ≤ℤ (pos n *ℤ divisor million) = omega (arith, ints, clamps) in
     record {
-      above = omega (arith, ints, quotient-rises r (neg_ℤ (pos greatest_content) *ℤ divisor million) (a *ℤ k) million low, quotient-exact r (neg_ℤ (pos greatest_content)) million);
-      below = omega (arith, ints, quotient-rises r (a *ℤ k) (pos greatest_content *ℤ divisor million) million high, quotient-exact r (pos greatest_content) million);
+      above = omega (arith, ints, quotient-rises r (neg_ℤ (pos n) *ℤ divisor million) (a *ℤ k) million low, quotient-exact r (neg_ℤ (pos n)) million);
+      below = omega (arith, ints, quotient-rises r (a *ℤ k) (pos n *ℤ divisor million) million high, quotient-exact r (pos n) million);
     }
+
+pub gain-around : (r : Rounding) (k a : ℤ) → Holds amounts a → Holds gains k → Holds contents (gain r k a)
+gain-around r k a h p = gain-within r k a greatest_amount steepest greatest_content refl h p
 
 pub keep-around : (r : Rounding) (a g : ℤ) (n : ℕ) → Holds (around n) a → Holds (around n) (keep r a g)
 keep-around r a g n h = between-around (pos 0) a (keep r a g) n (zero-around n) h (keep-between r a g)

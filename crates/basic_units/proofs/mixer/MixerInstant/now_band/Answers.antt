@@ -10,7 +10,7 @@ use Rattle.quant.specs.Term.{interval}
 use Rattle.quant.proofs.Calls.{filled, same_cons, inside-length, read, hulled2, hulled4}
 use Rattle.basic_units.specs.Mixer.{flow_of, content_of, streams}
 use Rattle.basic_units.proofs.Reactors.{joined-wide}
-use Rattle.basic_units.proofs.Mixers.{AreMixedBands, channel-inside, streams-length, flow-more_bands, content-more_bands, sum-inside}
+use Rattle.basic_units.proofs.Mixers.{AreMixedBands, channel-room_bands, channel-inside, streams-length, flow-more_bands, content-more_bands, sum-inside}
 use Rattle.basic_units.proofs.mixer.MixerInstant.now_band.Goals as goal
 
 pub loop-i-init : goal.loop-i-init
@@ -31,27 +31,18 @@ loop-i-init c =
 
 pub bounds-ins-i : goal.bounds-ins-i
 bounds-ins-i c =
-    let e = inside-length c.args.ins.now (streams c.args.self.now.inputs) c.requires.inputs in
-    let n = streams-length c.args.self.now.inputs in
-    let l = c.loop-i-test.true in
-    let h : 3 * c.loop-i.i < length c.args.ins.now = omega arith in
-    h
+    let h = channel-room_bands c.args.self.now.inputs c.loop-i.i 0 c.args.ins.now c.requires.inputs c.loop-i-test.true (lit< tt) in
+    omega arith
 
 pub bounds-ins-i-in-loop-i : goal.bounds-ins-i-in-loop-i
 bounds-ins-i-in-loop-i c =
-    let e = inside-length c.args.ins.now (streams c.args.self.now.inputs) c.requires.inputs in
-    let n = streams-length c.args.self.now.inputs in
-    let l = c.loop-i-test.true in
-    let h : 3 * c.loop-i.i + 1 < length c.args.ins.now = omega arith in
-    h
+    let h = channel-room_bands c.args.self.now.inputs c.loop-i.i 1 c.args.ins.now c.requires.inputs c.loop-i-test.true (lit< tt) in
+    omega arith
 
 pub bounds-ins-i-in-loop-i-2 : goal.bounds-ins-i-in-loop-i-2
 bounds-ins-i-in-loop-i-2 c =
-    let e = inside-length c.args.ins.now (streams c.args.self.now.inputs) c.requires.inputs in
-    let n = streams-length c.args.self.now.inputs in
-    let l = c.loop-i-test.true in
-    let h : 3 * c.loop-i.i + 2 < length c.args.ins.now = omega arith in
-    h
+    let h = channel-room_bands c.args.self.now.inputs c.loop-i.i 2 c.args.ins.now c.requires.inputs c.loop-i-test.true (lit< tt) in
+    omega arith
 
 pub mix_band-conc-requires-clause-second : goal.mix_band-conc-requires-clause-second
 mix_band-conc-requires-clause-second c =

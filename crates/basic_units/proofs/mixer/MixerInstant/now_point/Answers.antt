@@ -8,7 +8,7 @@ use Rattle.quant.specs.Operation.{mix, clamp}
 use Rattle.quant.specs.Term.{value}
 use Rattle.quant.proofs.Calls.{filled, same_cons, held-length, given1, given2, given4}
 use Rattle.basic_units.specs.Mixer.{flow_of, content_of, streams}
-use Rattle.basic_units.proofs.Mixers.{AreMixed, channel-held, streams-length, flow-more, content-more}
+use Rattle.basic_units.proofs.Mixers.{AreMixed, channel-room, channel-held, streams-length, flow-more, content-more}
 use Rattle.basic_units.proofs.mixer.MixerInstant.now_point.Goals as goal
 
 pub loop-i-init : goal.loop-i-init
@@ -28,27 +28,18 @@ loop-i-init c =
 
 pub bounds-ins-i : goal.bounds-ins-i
 bounds-ins-i c =
-    let e = held-length (streams c.args.self.now.inputs) c.args.ins.now c.requires.inputs in
-    let n = streams-length c.args.self.now.inputs in
-    let l = c.loop-i-test.true in
-    let h : 3 * c.loop-i.i < length c.args.ins.now = omega arith in
-    h
+    let h = channel-room c.args.self.now.inputs c.loop-i.i 0 c.args.ins.now c.requires.inputs c.loop-i-test.true (lit< tt) in
+    omega arith
 
 pub bounds-ins-i-in-loop-i : goal.bounds-ins-i-in-loop-i
 bounds-ins-i-in-loop-i c =
-    let e = held-length (streams c.args.self.now.inputs) c.args.ins.now c.requires.inputs in
-    let n = streams-length c.args.self.now.inputs in
-    let l = c.loop-i-test.true in
-    let h : 3 * c.loop-i.i + 1 < length c.args.ins.now = omega arith in
-    h
+    let h = channel-room c.args.self.now.inputs c.loop-i.i 1 c.args.ins.now c.requires.inputs c.loop-i-test.true (lit< tt) in
+    omega arith
 
 pub bounds-ins-i-in-loop-i-2 : goal.bounds-ins-i-in-loop-i-2
 bounds-ins-i-in-loop-i-2 c =
-    let e = held-length (streams c.args.self.now.inputs) c.args.ins.now c.requires.inputs in
-    let n = streams-length c.args.self.now.inputs in
-    let l = c.loop-i-test.true in
-    let h : 3 * c.loop-i.i + 2 < length c.args.ins.now = omega arith in
-    h
+    let h = channel-room c.args.self.now.inputs c.loop-i.i 2 c.args.ins.now c.requires.inputs c.loop-i-test.true (lit< tt) in
+    omega arith
 
 pub mix-conc-requires-clause-second : goal.mix-conc-requires-clause-second
 mix-conc-requires-clause-second c =

@@ -13,11 +13,11 @@ use Rattle.column_section.proofs.Columns.{states-length, state-held, below-middl
 use Rattle.column_section.proofs.column.Column.below_point.Goals as goal
 
 pub bounds-state-i : goal.bounds-state-i
-bounds-state-i c = let n = states-length c.args.self.now c.args.state.now c.requires.states in omega (arith, c.if-i-self.true)
+bounds-state-i c = let n = states-length c.args.self.now c.args.state.now c.requires.step.states in omega (arith, c.if-i-self.true)
 
 pub gain-requires-clause-number : goal.gain-requires-clause-number
 gain-requires-clause-number c =
-    let h = state-held c.args.self.now c.args.state.now (c.args.i + 1) c.requires.sound c.requires.states c.if-i-self.true in
+    let h = state-held c.args.self.now c.args.state.now (c.args.i + 1) c.requires.step.sound c.requires.step.states c.if-i-self.true in
     record { above = omega (arith, ints); below = omega (arith, ints) }
 
 pub returns-then-i-self-clause-value : goal.returns-then-i-self-clause-value
@@ -34,5 +34,5 @@ returns-else-i-self-clause-value c =
 
 pub returns-else-i-self-clause-size : goal.returns-else-i-self-clause-size
 returns-else-i-self-clause-size c =
-    let h = place-holds input_limits c.args.ins.now 4 c.requires.inputs.held in
+    let h = place-holds input_limits c.args.ins.now 4 c.requires.step.inputs.held in
     record { above = omega (arith, ints); below = omega (arith, ints) }

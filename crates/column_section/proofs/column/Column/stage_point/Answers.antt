@@ -12,11 +12,11 @@ use Rattle.column_section.proofs.Columns.{states-length, state-held}
 use Rattle.column_section.proofs.column.Column.stage_point.Goals as goal
 
 pub bounds-state-i : goal.bounds-state-i
-bounds-state-i c = let n = states-length c.args.self.now c.args.state.now c.requires.states in omega (arith, c.requires.stage)
+bounds-state-i c = let n = states-length c.args.self.now c.args.state.now c.requires.step.states in omega (arith, c.requires.stage)
 
 pub tray-mixed-requires-clause-own : goal.tray-mixed-requires-clause-own
 tray-mixed-requires-clause-own c =
-    let h = state-held c.args.self.now c.args.state.now c.args.i c.requires.sound c.requires.states c.requires.stage in
+    let h = state-held c.args.self.now c.args.state.now c.args.i c.requires.step.sound c.requires.step.states c.requires.stage in
     record { above = omega (arith, ints); below = omega (arith, ints) }
 
 pub returns : goal.returns
