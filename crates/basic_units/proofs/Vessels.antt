@@ -14,7 +14,8 @@ abbrev inputs_before : List Interval → List Interval
 inputs_before rest = wide_from (pos 0) ∷ wide ∷ wide ∷ wide ∷ rest
 
 -- states in their limits
-pub are_states : (limits : Limits) (state : List ℤ) → AreLimits limits → AllHold (vessel_limits limits) state → AreStates state
+pub are_states : (limits : Limits) (state : List ℤ) → AreLimits limits → AllHold (vessel_limits limits) state →
+    AreStates state
 are_states limits state are h =
     let l = held-length (vessel_limits limits) state h in
     record {
@@ -24,7 +25,8 @@ are_states limits state are h =
       temp = place-held (vessel_limits limits) state 3 wide h are.temp.1;
     }
 
-pub are_state_bands : (limits : Limits) (states : List Interval) → AreLimits limits → AllInside states (vessel_limits limits) →
+pub are_state_bands : (limits : Limits) (states : List Interval) → AreLimits limits →
+    AllInside states (vessel_limits limits) →
     AreStateBands states
 are_state_bands limits states are h =
     let l = inside-length states (vessel_limits limits) h in
@@ -57,7 +59,8 @@ are_input_bands rest ins h =
     }
 
 -- a row that is filled, and one more thing behind it
-pub appended : {X : Type 0} (xs ys back : List X) (v w : X) → xs ≡ ys → length back ≡ 1 → v ≡ w → xs ++ set back 0 v ≡ ys ++ w ∷ []
+pub appended : {X : Type 0} (xs ys back : List X) (v w : X) → xs ≡ ys → length back ≡ 1 → v ≡ w →
+    xs ++ set back 0 v ≡ ys ++ w ∷ []
 appended xs ys back v w e n d =
     ap (λ t. t ++ set back 0 v) e ∙ ap (λ t. ys ++ t) (filled back (v ∷ []) n ∙ same_cons _ _ _ _ d refl)
 
@@ -65,4 +68,5 @@ appended xs ys back v w e n d =
 pub four_same : {X : Type 0} (f g h k : X → X) (a b c d p q r s : X) → a ≡ p → b ≡ q → c ≡ r → d ≡ s →
     f a ∷ g b ∷ h c ∷ k d ∷ [] ≡ f p ∷ g q ∷ h r ∷ k s ∷ []
 four_same f g h k a b c d p q r s e i j l =
-    same_cons _ _ _ _ (ap f e) (same_cons _ _ _ _ (ap g i) (same_cons _ _ _ _ (ap h j) (same_cons _ _ _ _ (ap k l) refl)))
+    same_cons _ _ _ _ (ap f e) (same_cons _ _ _ _ (ap g i)
+    (same_cons _ _ _ _ (ap h j) (same_cons _ _ _ _ (ap k l) refl)))

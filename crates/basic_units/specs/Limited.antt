@@ -21,17 +21,21 @@ states-limited limits states inputs v f c t are = (
 )
 
 -- a stream whose channels are clamped, and whatever stands behind it
-pub stream-limited : (limits : Limits) (states inputs : List Interval) (f c t : Term) (rest rest_limits : List Interval) → AreLimits limits →
+pub stream-limited : (limits : Limits) (states inputs : List Interval) (f c t : Term)
+    (rest rest_limits : List Interval) → AreLimits limits →
     AllInside rest rest_limits →
-    AllInside (interval Floor states inputs (clamped limits.flow f) ∷ interval Floor states inputs (clamped limits.conc c)
-    ∷ interval Floor states inputs (clamped limits.temp t) ∷ rest) (limits.flow ∷ limits.conc ∷ limits.temp ∷ rest_limits)
+    AllInside (interval Floor states inputs (clamped limits.flow f) ∷ interval Floor states inputs
+    (clamped limits.conc c)
+    ∷ interval Floor states inputs (clamped limits.temp t) ∷ rest)
+    (limits.flow ∷ limits.conc ∷ limits.temp ∷ rest_limits)
 stream-limited limits states inputs f c t rest rest_limits are h = (
   clamped-inside limits.flow _ are.flow.0,
   (clamped-inside limits.conc _ are.conc.0, (clamped-inside limits.temp _ are.temp.0, h)),
 )
 
 -- the stream that a vessel shows is three of its states, whatever stands behind it
-pub shown-limited : (limits : Limits) (states rest rest_limits : List Interval) → AllInside states (vessel_limits limits) → AllInside rest rest_limits →
+pub shown-limited : (limits : Limits) (states rest rest_limits : List Interval) →
+    AllInside states (vessel_limits limits) → AllInside rest rest_limits →
     AllInside (interval Floor states [] flow ∷ interval Floor states [] conc ∷ interval Floor states [] temp ∷ rest)
     (limits.flow ∷ limits.conc ∷ limits.temp ∷ rest_limits)
 shown-limited limits states rest rest_limits inside h = (

@@ -20,7 +20,8 @@ content_of channel (suc n) = mix_of (content_of channel n) (input (3 * suc n + c
 abbrev pub now_terms : Mixer → List (List Term)
 now_terms mixer =
     let further = mixer.inputs - 1 in
-    (clamped mixer.limits.flow (flow_of further) ∷ clamped mixer.limits.conc (content_of 1 further) ∷ clamped mixer.limits.temp (content_of 2 further) ∷ [])
+    (clamped mixer.limits.flow (flow_of further) ∷ clamped mixer.limits.conc (content_of 1 further)
+    ∷ clamped mixer.limits.temp (content_of 2 further) ∷ [])
     ∷ []
 
 abbrev pub output_limits : Mixer → List (List Interval)

@@ -13,4 +13,5 @@ pub now-limited : (mixer : Mixer) (inputs : List Interval) → IsSound mixer →
     AllInside (intervals Floor (outputs (now_terms mixer)) [] inputs) (outputs (output_limits mixer))
 now-limited mixer inputs sound =
     let further = mixer.inputs - 1 in
-    stream-limited mixer.limits [] inputs (flow_of further) (content_of 1 further) (content_of 2 further) [] [] sound.limits tt
+    stream-limited mixer.limits [] inputs (flow_of further) (content_of 1 further)
+    (content_of 2 further) [] [] sound.limits tt

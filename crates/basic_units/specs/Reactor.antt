@@ -30,7 +30,8 @@ jacketed reactor = blend_of (heated reactor) jacket (number reactor.ua) (number 
 -- Its states at the next tick. The outflow leaves, and the inflow takes the place of as much of the contents; of these the
 -- rate reacts and heats; of the heated contents ua takes the temperature of the jacket.
 abbrev pub next_terms : Reactor → List Term
-next_terms reactor = states_of reactor.limits (volume_after reactor.k) (outflow reactor.k) (reacted reactor) (jacketed reactor)
+next_terms reactor = states_of reactor.limits (volume_after reactor.k) (outflow reactor.k) (reacted reactor)
+    (jacketed reactor)
 
 -- its outputs: the stream that flows out, the level and the temperature
 abbrev pub view_terms : Reactor → List (List Term)

@@ -15,5 +15,6 @@ pub now-limited : (splitter : Splitter) (inputs : List Interval) → IsSound spl
 now-limited splitter inputs sound =
     let first = share_of in_flow (number splitter.share) in
     let second = rest_of in_flow (number splitter.share) in
-    stream-limited splitter.limits [] inputs first in_conc in_temp (intervals Floor (part_of splitter second) [] inputs) (stream_limits splitter.limits)
+    stream-limited splitter.limits [] inputs first in_conc in_temp
+    (intervals Floor (part_of splitter second) [] inputs) (stream_limits splitter.limits)
     sound.limits (stream-limited splitter.limits [] inputs second in_conc in_temp [] [] sound.limits tt)

@@ -24,12 +24,14 @@ read-ends I A e h k =
     let same = ends_same I A e in
     (to_z-of_z w64 I.lo h ∙ same.0, to_z-of_z w64 I.hi k ∙ same.1)
 
-pub read-low : (I A B : Interval) → I ≡ A → I.lo ≤ℤ I.hi → FitsSigned w64 I.lo → IsInside A B → Holds B (to_z w64 (of_z w64 I.lo))
+pub read-low : (I A B : Interval) → I ≡ A → I.lo ≤ℤ I.hi → FitsSigned w64 I.lo → IsInside A B →
+    Holds B (to_z w64 (of_z w64 I.lo))
 read-low I A B e o h i =
     let same = ends_same I A e in
     record { above = omega (arith, ints); below = omega (arith, ints) }
 
-pub read-high : (I A B : Interval) → I ≡ A → I.lo ≤ℤ I.hi → FitsSigned w64 I.hi → IsInside A B → Holds B (to_z w64 (of_z w64 I.hi))
+pub read-high : (I A B : Interval) → I ≡ A → I.lo ≤ℤ I.hi → FitsSigned w64 I.hi → IsInside A B →
+    Holds B (to_z w64 (of_z w64 I.hi))
 read-high I A B e o h i =
     let same = ends_same I A e in
     record { above = omega (arith, ints); below = omega (arith, ints) }
@@ -43,11 +45,13 @@ pub hull1-ends : (f : ℤ → ℤ) (A R : Interval) → f A.lo ≤ℤ f A.hi →
 hull1-ends f A R h l k = same_ends R (hull1 f A) (omega (arith, ints, clamps)) (omega (arith, ints, clamps))
 
 -- the hull of clamp, by its ends
-pub clamp-hull : (limits A R : Interval) → IsBand A → R.lo ≡ clamp limits A.lo → R.hi ≡ clamp limits A.hi → R ≡ hull1 (clamp limits) A
+pub clamp-hull : (limits A R : Interval) → IsBand A → R.lo ≡ clamp limits A.lo → R.hi ≡ clamp limits A.hi →
+    R ≡ hull1 (clamp limits) A
 clamp-hull limits A R a l h = hull1-ends (clamp limits) A R (clamp-rises limits A.lo A.hi a.ordered) l h
 
 -- the exact hull of what is monotone in two arguments
-pub exact2 : (f : ℤ → ℤ → ℤ) (A B R : Interval) → IsMonotone2 f → IsBand A → IsBand B → R ≡ hull2 f A B → IsHull (IsValue2 f A B) R
+pub exact2 : (f : ℤ → ℤ → ℤ) (A B R : Interval) → IsMonotone2 f → IsBand A → IsBand B → R ≡ hull2 f A B →
+    IsHull (IsValue2 f A B) R
 exact2 f A B R m a b e = exact_of (IsValue2 f A B) R (hull2 f A B) e (hull2-exact f A B a b m)
 
 -- the hull of the sum, by its ends
@@ -55,5 +59,6 @@ pub sum-hull : (A B R : Interval) → IsBand A → IsBand B → R.lo ≡ A.lo +�
 sum-hull A B R a b l h = same_ends R (hull2 ◌+ℤ◌ A B) (omega (arith, ints, clamps)) (omega (arith, ints, clamps))
 
 -- the hull of the difference, by its ends
-pub difference-hull : (A B R : Interval) → IsBand A → IsBand B → R.lo ≡ A.lo -ℤ B.hi → R.hi ≡ A.hi -ℤ B.lo → R ≡ hull2 ◌-ℤ◌ A B
+pub difference-hull : (A B R : Interval) → IsBand A → IsBand B → R.lo ≡ A.lo -ℤ B.hi → R.hi ≡ A.hi -ℤ B.lo →
+    R ≡ hull2 ◌-ℤ◌ A B
 difference-hull A B R a b l h = same_ends R (hull2 ◌-ℤ◌ A B) (omega (arith, ints, clamps)) (omega (arith, ints, clamps))

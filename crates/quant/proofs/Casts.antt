@@ -12,7 +12,8 @@ size-le a m h = omega (arith, ints)
 
 pub product-around : (a b : ℤ) (m n : ℕ) → Holds (around m) a → Holds (around n) b → Holds (around (m * n)) (a *ℤ b)
 product-around a b m n h k =
-    let s : unsigned_abs (a *ℤ b) ≤ m * n = omega (arith, unsigned_abs-mul a b, mul-le (unsigned_abs a) (unsigned_abs b) m n (size-le a m h) (size-le b n k)) in
+    let s : unsigned_abs (a *ℤ b) ≤ m * n = omega
+    (arith, unsigned_abs-mul a b, mul-le (unsigned_abs a) (unsigned_abs b) m n (size-le a m h) (size-le b n k)) in
     record { above = omega (arith, ints); below = omega (arith, ints) }
 
 pub same-product : (x y a b : ℤ) → x ≡ a → y ≡ b → x *ℤ y ≡ a *ℤ b
@@ -50,9 +51,11 @@ two-back : (p q : ℤ) → Holds stage_products p → Holds stage_products q →
 two-back p q h k = omega (arith, ints)
 
 pub three-fit : (p q s : ℤ) → Holds stage_products p → Holds stage_products q → Holds stage_products s →
-    FitsSigned w128 (to_z w128 (of_z w128 (to_z w128 (of_z w128 p) +ℤ to_z w128 (of_z w128 q))) +ℤ to_z w128 (of_z w128 s))
+    FitsSigned w128 (to_z w128 (of_z w128 (to_z w128 (of_z w128 p) +ℤ to_z w128 (of_z w128 q))) +ℤ to_z w128
+    (of_z w128 s))
 three-fit p q s h k i = rw (two-back p q h k) (omega (arith, ints))
 
 pub three-back : (p q s : ℤ) → Holds stage_products p → Holds stage_products q → Holds stage_products s →
-    to_z w128 (of_z w128 (to_z w128 (of_z w128 (to_z w128 (of_z w128 p) +ℤ to_z w128 (of_z w128 q))) +ℤ to_z w128 (of_z w128 s))) ≡ (p +ℤ q) +ℤ s
+    to_z w128 (of_z w128 (to_z w128 (of_z w128 (to_z w128 (of_z w128 p) +ℤ to_z w128 (of_z w128 q))) +ℤ to_z w128
+    (of_z w128 s))) ≡ (p +ℤ q) +ℤ s
 three-back p q s h k i = rw (two-back p q h k) (omega (arith, ints))

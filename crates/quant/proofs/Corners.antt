@@ -54,7 +54,8 @@ pub takes-held : (c d : ℤ) (G : Interval) (x : ℤ) → IsBand G → Takes c d
 takes-held c d G x b t = elim t [ inl p ↦ high-holds G x b p.1 | inr p ↦ low-holds G x b p.1 ]
 
 -- what is drawn is least at the end that it is drawn from, and greatest at the other
-pub drawn-least : (c d : ℤ) (f : ℤ → ℤ) (G : Interval) (x : ℤ) → IsDrawn c d f → IsBand G → Takes c d G.lo G.hi x → IsLeastAt f G x
+pub drawn-least : (c d : ℤ) (f : ℤ → ℤ) (G : Interval) (x : ℤ) → IsDrawn c d f → IsBand G → Takes c d G.lo G.hi x →
+    IsLeastAt f G x
 drawn-least c d f G x h b t = elim t [
   | inl p ↦ record {
     holds = low-holds G x b p.1;
@@ -85,7 +86,8 @@ hull-ordered V R h = (h.holds R.lo h.low).below
 
 -- the hull of what is drawn lies between its values at the two ends
 pub drawn-hull : (c d : ℤ) (f : ℤ → ℤ) (A : Interval) (x y p q : ℤ) → IsDrawn c d f → IsBand A →
-    Takes c d A.lo A.hi x → Takes c d A.hi A.lo y → p ≡ f x → q ≡ f y → IsHull (IsValue1 f A) (record { lo = p; hi = q })
+    Takes c d A.lo A.hi x → Takes c d A.hi A.lo y → p ≡ f x → q ≡ f y →
+    IsHull (IsValue1 f A) (record { lo = p; hi = q })
 drawn-hull c d f A x y p q h b t s e g =
     let low = drawn-least c d f A x h b t in
     let high = drawn-greatest c d f A y h b s in
@@ -99,7 +101,8 @@ drawn-hull c d f A x y p q h b t s e g =
     }
 
 -- what rises with its first argument, and is drawn by the second, has its hull between its values at these two corners
-pub drawn-hull2 : (f : ℤ → ℤ → ℤ) → ((a b g : ℤ) → a ≤ℤ b → f a g ≤ℤ f b g) → (C D : ℤ → ℤ) → ((a : ℤ) → IsDrawn (C a) (D a) (f a)) →
+pub drawn-hull2 : (f : ℤ → ℤ → ℤ) → ((a b g : ℤ) → a ≤ℤ b → f a g ≤ℤ f b g) → (C D : ℤ → ℤ) →
+    ((a : ℤ) → IsDrawn (C a) (D a) (f a)) →
     (A G : Interval) (a b x y r s : ℤ) → IsBand A → IsBand G → a ≡ A.lo → b ≡ A.hi →
     Takes (C A.lo) (D A.lo) G.lo G.hi x → Takes (C A.hi) (D A.hi) G.hi G.lo y →
     FitsSigned w64 x → FitsSigned w64 y → FitsSigned w64 r → FitsSigned w64 s →
@@ -120,7 +123,8 @@ drawn-hull2 f rises C D drawn A G a b x y r s o g d e t u h k i j m n =
     }
 
 -- what lies between 0 and its first argument has its hull there
-value-between : (f : ℤ → ℤ → ℤ) → ((a g : ℤ) → Holds (join (point (pos 0)) (point a)) (f a g)) → (A G : Interval) (z : ℤ) →
+value-between : (f : ℤ → ℤ → ℤ) → ((a g : ℤ) → Holds (join (point (pos 0)) (point a)) (f a g)) →
+    (A G : Interval) (z : ℤ) →
     IsValue2 f A G z → Holds (join (point (pos 0)) A) z
 value-between f h A G z v =
     let a = v.1 in
@@ -130,7 +134,10 @@ value-between f h A G z v =
 
 pub hull-between : (f : ℤ → ℤ → ℤ) → ((a g : ℤ) → Holds (join (point (pos 0)) (point a)) (f a g)) → (A G R : Interval) →
     IsHull (IsValue2 f A G) R → IsInside R (join (point (pos 0)) A)
-hull-between f h A G R k = record { above = (value-between f h A G R.lo k.low).above; below = (value-between f h A G R.hi k.high).below }
+hull-between f h A G R k = record {
+  above = (value-between f h A G R.lo k.low).above;
+  below = (value-between f h A G R.hi k.high).below;
+}
 
 -- the first argument is drawn by c and d, and the second by e and g
 pub record AreDrawn (c d e g : ℤ) (f : ℤ → ℤ → ℤ) : Type 0 where
@@ -146,7 +153,8 @@ pub record IsGreatestOver (f : ℤ → ℤ → ℤ) (A B : Interval) (p : ℤ) :
   pub found : IsValue2 f A B p
   pub greatest : (u v : ℤ) → Holds A u → Holds B v → f u v ≤ℤ p
 
-pub least-drawn : (c d e g : ℤ) (f : ℤ → ℤ → ℤ) (A B : Interval) (x y p : ℤ) → AreDrawn c d e g f → IsBand A → IsBand B →
+pub least-drawn : (c d e g : ℤ) (f : ℤ → ℤ → ℤ) (A B : Interval) (x y p : ℤ) → AreDrawn c d e g f → IsBand A →
+    IsBand B →
     Takes c d A.lo A.hi x → Takes e g B.lo B.hi y → p ≡ f x y → IsLeastOver f A B p
 least-drawn c d e g f A B x y p h a b t s i =
     let first : (v : ℤ) → IsLeastAt (λ u. f u v) A x = λ v. drawn-least c d (λ u. f u v) A x (h.first v) a t in
@@ -156,7 +164,8 @@ least-drawn c d e g f A B x y p h a b t s i =
       least = λ u v k l. omega (arith, ints, i, second.least v l, (first v).least u k);
     }
 
-pub greatest-drawn : (c d e g : ℤ) (f : ℤ → ℤ → ℤ) (A B : Interval) (x y p : ℤ) → AreDrawn c d e g f → IsBand A → IsBand B →
+pub greatest-drawn : (c d e g : ℤ) (f : ℤ → ℤ → ℤ) (A B : Interval) (x y p : ℤ) → AreDrawn c d e g f → IsBand A →
+    IsBand B →
     Takes c d A.hi A.lo x → Takes e g B.hi B.lo y → p ≡ f x y → IsGreatestOver f A B p
 greatest-drawn c d e g f A B x y p h a b t s i =
     let first : (v : ℤ) → IsGreatestAt (λ u. f u v) A x = λ v. drawn-greatest c d (λ u. f u v) A x (h.first v) a t in
@@ -170,7 +179,8 @@ greatest-drawn c d e g f A B x y p h a b t s i =
 -- upper ends
 corners4 : (f : ℤ → ℤ → ℤ → ℤ → ℤ) → ((a b d m v : ℤ) → a ≤ℤ b → f a d m v ≤ℤ f b d m v) →
     ((c a b m v : ℤ) → a ≤ℤ b → f c a m v ≤ℤ f c b m v) → (C D M V : Interval) (p q : ℤ) → IsBand C → IsBand D →
-    IsLeastOver (f C.lo D.lo) M V p → IsGreatestOver (f C.hi D.hi) M V q → IsHull (IsValue4 f C D M V) (record { lo = p; hi = q })
+    IsLeastOver (f C.lo D.lo) M V p → IsGreatestOver (f C.hi D.hi) M V q →
+    IsHull (IsValue4 f C D M V) (record { lo = p; hi = q })
 corners4 f first second C D M V p q c d low high =
     record {
       holds = λ z v.
@@ -181,15 +191,32 @@ corners4 f first second C D M V p q c d low high =
           let h = v.2.2.1 in
           let k = v.2.2.2.1 in
           record {
-            above = omega (arith, ints, low.least m w h k, first C.lo a D.lo m w v.1.above, second a D.lo b m w v.2.1.above, v.2.2.2.2);
-            below = omega (arith, ints, high.greatest m w h k, first a C.hi D.hi m w v.1.below, second a b D.hi m w v.2.1.below, v.2.2.2.2);
+            above = omega (
+              arith,
+              ints,
+              low.least m w h k,
+              first C.lo a D.lo m w v.1.above,
+              second a D.lo b m w
+                  v.2.1.above,
+              v.2.2.2.2,
+            );
+            below = omega (
+              arith,
+              ints,
+              high.greatest m w h k,
+              first a C.hi D.hi m w v.1.below,
+              second a b D.hi m w
+                  v.2.1.below,
+              v.2.2.2.2,
+            );
           };
       low = (C.lo, low-holds C C.lo c refl, (D.lo, low-holds D D.lo d refl, low.found));
       high = (C.hi, high-holds C C.hi c refl, (D.hi, high-holds D D.hi d refl, high.found));
     }
 
 -- what lies between its first two arguments has its hull between their bands
-value-inside : (f : ℤ → ℤ → ℤ → ℤ → ℤ) → ((c d m v : ℤ) → Holds (join (point c) (point d)) (f c d m v)) → (C D M V : Interval) (z : ℤ) →
+value-inside : (f : ℤ → ℤ → ℤ → ℤ → ℤ) → ((c d m v : ℤ) → Holds (join (point c) (point d)) (f c d m v)) →
+    (C D M V : Interval) (z : ℤ) →
     IsValue4 f C D M V z → Holds (join C D) z
 value-inside f between C D M V z v =
     let c = v.1 in
@@ -201,7 +228,10 @@ value-inside f between C D M V z v =
 pub hull-inside_contents : (f : ℤ → ℤ → ℤ → ℤ → ℤ) → ((c d m v : ℤ) → Holds (join (point c) (point d)) (f c d m v)) →
     (C D M V R : Interval) → IsHull (IsValue4 f C D M V) R → IsInside R (join C D)
 hull-inside_contents f between C D M V R h =
-    record { above = (value-inside f between C D M V R.lo h.low).above; below = (value-inside f between C D M V R.hi h.high).below }
+    record {
+      above = (value-inside f between C D M V R.lo h.low).above;
+      below = (value-inside f between C D M V R.hi h.high).below;
+    }
 
 -- the other two turn with the first two: the third is drawn from the first to the second, and the fourth back
 pub blend-turned : (r : Rounding) (c d : ℤ) → AreDrawn c d d c (blend r c d)
@@ -220,9 +250,11 @@ pub record AreOpposite (c d : ℤ) (A B : Interval) (ends : ℤ × ℤ) : Type 0
 -- so their hull lies between the values that are called at opposite ends
 pub turned-hull : (f : ℤ → ℤ → ℤ → ℤ → ℤ) → ((a b d m v : ℤ) → a ≤ℤ b → f a d m v ≤ℤ f b d m v) →
     ((c a b m v : ℤ) → a ≤ℤ b → f c a m v ≤ℤ f c b m v) → ((c d : ℤ) → AreDrawn c d d c (f c d)) → (C D A B : Interval)
-    (c d e g : ℤ) (ends ends' : ℤ × ℤ) (r s : ℤ) → IsBand C → IsBand D → (c ≡ C.lo) × (e ≡ C.hi) → (d ≡ D.lo) × (g ≡ D.hi) →
+    (c d e g : ℤ) (ends ends' : ℤ × ℤ) (r s : ℤ) → IsBand C → IsBand D → (c ≡ C.lo) × (e ≡ C.hi) →
+    (d ≡ D.lo) × (g ≡ D.hi) →
     AreOpposite c d A B ends → AreOpposite e g B A ends' →
-    FitsSigned w64 ends.0 → FitsSigned w64 ends.1 → FitsSigned w64 ends'.0 → FitsSigned w64 ends'.1 → FitsSigned w64 r → FitsSigned w64 s →
+    FitsSigned w64 ends.0 → FitsSigned w64 ends.1 → FitsSigned w64 ends'.0 → FitsSigned w64 ends'.1 →
+    FitsSigned w64 r → FitsSigned w64 s →
     r ≡ f c d (to_z w64 (of_z w64 ends.0)) (to_z w64 (of_z w64 ends.1)) →
     s ≡ f e g (to_z w64 (of_z w64 ends'.1)) (to_z w64 (of_z w64 ends'.0)) →
     IsHull (IsValue4 f C D A B) (record { lo = to_z w64 (of_z w64 r); hi = to_z w64 (of_z w64 s) })
@@ -240,10 +272,12 @@ turned-hull f first second turned C D A B c d e g ends ends' r s bc bd ec ed o o
     (given4 f e g _ _ s C.hi D.hi ends'.1 ends'.0 j n ec.1 ed.1 (to_z-of_z w64 ends'.1 k') (to_z-of_z w64 ends'.0 h')))
 
 -- and the hull of an operation with two arguments exchanged is the same
-exchanged : (f : ℤ → ℤ → ℤ → ℤ → ℤ) (C D M N : Interval) (z : ℤ) → IsValue4 (λ c d n m. f c d m n) C D N M z → IsValue4 f C D M N z
+exchanged : (f : ℤ → ℤ → ℤ → ℤ → ℤ) (C D M N : Interval) (z : ℤ) → IsValue4 (λ c d n m. f c d m n) C D N M z →
+    IsValue4 f C D M N z
 exchanged f C D M N z v = (v.0, v.1, (v.2.0, v.2.1, (v.2.2.2.0, v.2.2.2.1, (v.2.2.0, v.2.2.1, v.2.2.2.2))))
 
-pub exchanged-hull : (f : ℤ → ℤ → ℤ → ℤ → ℤ) (C D M N R : Interval) → IsHull (IsValue4 (λ c d n m. f c d m n) C D N M) R →
+pub exchanged-hull : (f : ℤ → ℤ → ℤ → ℤ → ℤ) (C D M N R : Interval) →
+    IsHull (IsValue4 (λ c d n m. f c d m n) C D N M) R →
     IsHull (IsValue4 f C D M N) R
 exchanged-hull f C D M N R h = record {
   holds = λ z v. h.holds z (exchanged (λ c d n m. f c d m n) C D N M z v);
@@ -252,21 +286,28 @@ exchanged-hull f C D M N R h = record {
 }
 
 -- a stage is drawn by its two flows
-pub tray-drawn : (r : Rounding) (holdup slope x xa yb : ℤ) → AreDrawn x xa (x *ℤ slope) (yb *ℤ million) (tray r holdup slope x xa yb)
-tray-drawn r holdup slope x xa yb = record { first = tray-liquid r holdup slope x xa yb; second = tray-vapour r holdup slope x xa yb }
+pub tray-drawn : (r : Rounding) (holdup slope x xa yb : ℤ) →
+    AreDrawn x xa (x *ℤ slope) (yb *ℤ million) (tray r holdup slope x xa yb)
+tray-drawn r holdup slope x xa yb = record {
+  first = tray-liquid r holdup slope x xa yb;
+  second = tray-vapour r holdup slope x xa yb;
+}
 
 -- what may leave at the upper ends of the flows may leave at any
-pub drainable-below : (holdup slope : ℤ) (L V : Interval) (y z : ℤ) → IsDrainable holdup slope L.hi V.hi → Holds slopes slope → Holds L y → Holds V z →
+pub drainable-below : (holdup slope : ℤ) (L V : Interval) (y z : ℤ) → IsDrainable holdup slope L.hi V.hi →
+    Holds slopes slope → Holds L y → Holds V z →
     IsDrainable holdup slope y z
 drainable-below holdup slope L V y z d s h k =
     let n = times-le z V.hi slope s.above k.below in
     record { leaves = omega (arith, ints, d.leaves); passes = omega (arith, ints, d.passes) }
 
 -- so what is read of a band of flows is one
-pub flow-held : (L : Interval) (l : ℤ) → IsInside L stage_flows → Holds L l → FitsSigned w64 l → Holds stage_flows (to_z w64 (of_z w64 l))
+pub flow-held : (L : Interval) (l : ℤ) → IsInside L stage_flows → Holds L l → FitsSigned w64 l →
+    Holds stage_flows (to_z w64 (of_z w64 l))
 flow-held L l i h f = subst (Holds stage_flows) (sym (to_z-of_z w64 l f)) (inside-holds L stage_flows l i h)
 
-pub drainable-held : (holdup slope : ℤ) (L V : Interval) (l v : ℤ) → IsDrainable holdup slope L.hi V.hi → Holds slopes slope → Holds L l → Holds V v →
+pub drainable-held : (holdup slope : ℤ) (L V : Interval) (l v : ℤ) → IsDrainable holdup slope L.hi V.hi →
+    Holds slopes slope → Holds L l → Holds V v →
     FitsSigned w64 holdup → FitsSigned w64 slope → FitsSigned w64 l → FitsSigned w64 v →
     IsDrainable (to_z w64 (of_z w64 holdup)) (to_z w64 (of_z w64 slope)) (to_z w64 (of_z w64 l)) (to_z w64 (of_z w64 v))
 drainable-held holdup slope L V l v d s h k f g i j =
@@ -278,14 +319,16 @@ drainable-held holdup slope L V l v d s h k f g i j =
     (subst (λ (t : ℤ). IsDrainable holdup slope t c) (sym (to_z-of_z w64 l i))
     (subst (IsDrainable holdup slope l) (sym (to_z-of_z w64 v j)) (drainable-below holdup slope L V l v d s h k))))
 
-pub stage-pushes : (holdup slope : ℤ) (L V : Interval) → Holds slopes slope → IsInside L stage_flows → IsInside V stage_flows → IsDrainable holdup slope L.hi V.hi →
+pub stage-pushes : (holdup slope : ℤ) (L V : Interval) → Holds slopes slope → IsInside L stage_flows →
+    IsInside V stage_flows → IsDrainable holdup slope L.hi V.hi →
     (l v : ℤ) → Holds L l → Holds V v → IsPushed holdup slope l v
 stage-pushes holdup slope L V s i j d l v h k =
     let e = drainable-below holdup slope L V l v d s h k in
     record { liquid = omega (arith, ints); vapour = omega (arith, ints); own = omega (arith, ints, e.leaves) }
 
 -- so the hull of a stage lies between its values at the lower ends and at the upper ends of the contents
-pub stage-corners : (r : Rounding) (holdup slope : ℤ) (X A B L V : Interval) (p q : ℤ) → IsBand X → IsBand A → IsBand B →
+pub stage-corners : (r : Rounding) (holdup slope : ℤ) (X A B L V : Interval) (p q : ℤ) → IsBand X → IsBand A →
+    IsBand B →
     ((l v : ℤ) → Holds L l → Holds V v → IsPushed holdup slope l v) →
     IsLeastOver (tray r holdup slope X.lo A.lo B.lo) L V p → IsGreatestOver (tray r holdup slope X.hi A.hi B.hi) L V q →
     IsHull (IsValue5 (tray r holdup slope) X A B L V) (record { lo = p; hi = q })
@@ -301,9 +344,39 @@ stage-corners r holdup slope X A B L V p q x a b pushes low high =
           let k = t.2.2.2.2.1 in
           let rise = tray-contents r holdup slope l v (pushes l v h k) in
           record {
-            above = omega (arith, ints, low.least l v h k, rise X.lo A.lo B.lo e f g t.1.above t.2.1.above t.2.2.1.above, t.2.2.2.2.2);
-            below = omega (arith, ints, high.greatest l v h k, rise e f g X.hi A.hi B.hi t.1.below t.2.1.below t.2.2.1.below, t.2.2.2.2.2);
+            above = omega (
+              arith,
+              ints,
+              low.least l v h k,
+              rise X.lo A.lo B.lo e f g t.1.above t.2.1.above
+                  t.2.2.1.above,
+              t.2.2.2.2.2,
+            );
+            below = omega (
+              arith,
+              ints,
+              high.greatest l v h k,
+              rise e f g X.hi A.hi B.hi t.1.below t.2.1.below
+                  t.2.2.1.below,
+              t.2.2.2.2.2,
+            );
           };
-      low = (X.lo, low-holds X X.lo x refl, (A.lo, low-holds A A.lo a refl, (B.lo, low-holds B B.lo b refl, low.found)));
-      high = (X.hi, high-holds X X.hi x refl, (A.hi, high-holds A A.hi a refl, (B.hi, high-holds B B.hi b refl, high.found)));
+      low = (
+        X.lo,
+        low-holds X X.lo x refl,
+        (
+          A.lo,
+          low-holds A A.lo a refl,
+          (B.lo, low-holds B B.lo b refl, low.found),
+        ),
+      );
+      high = (
+        X.hi,
+        high-holds X X.hi x refl,
+        (
+          A.hi,
+          high-holds A A.hi a refl,
+          (B.hi, high-holds B B.hi b refl, high.found),
+        ),
+      );
     }

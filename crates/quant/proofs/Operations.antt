@@ -11,10 +11,12 @@ use Rattle.quant.proofs.Division.{add-times, times-times, sub-times, times-le, l
 
 -- what rises, and what falls, is monotone
 pub rises : (f : ℤ → ℤ) → ((a b : ℤ) → a ≤ℤ b → f a ≤ℤ f b) → IsMonotone1 f
-rises f h a b c p q = let x = h a b p in let y = h b c q in record { above = omega (arith, ints, clamps); below = omega (arith, ints, clamps) }
+rises f h a b c p q = let x = h a b p in let y =
+    h b c q in record { above = omega (arith, ints, clamps); below = omega (arith, ints, clamps) }
 
 pub falls : (f : ℤ → ℤ) → ((a b : ℤ) → a ≤ℤ b → f b ≤ℤ f a) → IsMonotone1 f
-falls f h a b c p q = let x = h a b p in let y = h b c q in record { above = omega (arith, ints, clamps); below = omega (arith, ints, clamps) }
+falls f h a b c p q = let x = h a b p in let y =
+    h b c q in record { above = omega (arith, ints, clamps); below = omega (arith, ints, clamps) }
 
 -- either of two cases by order
 pub by_le_z : {P : Type 0} (a b : ℤ) → (a ≤ℤ b → P) → (b ≤ℤ a → P) → P
@@ -29,14 +31,16 @@ pub record IsDrawn (c d : ℤ) (f : ℤ → ℤ) : Type 0 where
 pub drawn-monotone : (c d : ℤ) (f : ℤ → ℤ) → IsDrawn c d f → IsMonotone1 f
 drawn-monotone c d f h = by_le_z c d (λ p. rises f (λ a b l. h.up a b p l)) (λ p. falls f (λ a b l. h.down a b p l))
 
-pub quotient-drawn : (r : Rounding) (c d : ℤ) (f : ℤ → ℤ) (w : ℤ) → IsDrawn c d f → IsDrawn c d (λ x. quotient r (f x) w)
+pub quotient-drawn : (r : Rounding) (c d : ℤ) (f : ℤ → ℤ) (w : ℤ) → IsDrawn c d f →
+    IsDrawn c d (λ x. quotient r (f x) w)
 quotient-drawn r c d f w h = record {
   up = λ x y p l. quotient-rises r (f x) (f y) w (h.up x y p l);
   down = λ x y p l. quotient-rises r (f y) (f x) w (h.down x y p l);
 }
 
 -- and so is what it makes of something that rises
-pub drawn-after : (c d : ℤ) (f u g : ℤ → ℤ) → IsDrawn c d f → ((x y : ℤ) → x ≤ℤ y → u x ≤ℤ u y) → ((x : ℤ) → g x ≡ f (u x)) →
+pub drawn-after : (c d : ℤ) (f u g : ℤ → ℤ) → IsDrawn c d f → ((x y : ℤ) → x ≤ℤ y → u x ≤ℤ u y) →
+    ((x : ℤ) → g x ≡ f (u x)) →
     IsDrawn c d g
 drawn-after c d f u g h m e = record {
   up = λ x y p l. omega (arith, ints, e x, e y, h.up (u x) (u y) p (m x y l));
@@ -88,15 +92,18 @@ part-rises w m n h = omega (arith, ints, clamps)
 -- `share` rises with the whole, and with the ppm where the whole is not negative
 pub share-rises : (r : Rounding) (a b g : ℤ) → a ≤ℤ b → share r a g ≤ℤ share r b g
 unfolding share
-share-rises r a b g h = quotient-rises r (a *ℤ part million g) (b *ℤ part million g) million (times-le a b (part million g) (part-above million g) h)
+share-rises r a b g h = quotient-rises r (a *ℤ part million g) (b *ℤ part million g) million
+    (times-le a b (part million g) (part-above million g) h)
 
 pub share-up : (r : Rounding) (a g h : ℤ) → pos 0 ≤ℤ a → g ≤ℤ h → share r a g ≤ℤ share r a h
 unfolding share
-share-up r a g h p q = quotient-rises r (a *ℤ part million g) (a *ℤ part million h) million (le-times (part million g) (part million h) a p (part-rises million g h q))
+share-up r a g h p q = quotient-rises r (a *ℤ part million g) (a *ℤ part million h) million
+    (le-times (part million g) (part million h) a p (part-rises million g h q))
 
 pub share-down : (r : Rounding) (a g h : ℤ) → a ≤ℤ pos 0 → g ≤ℤ h → share r a h ≤ℤ share r a g
 unfolding share
-share-down r a g h p q = quotient-rises r (a *ℤ part million h) (a *ℤ part million g) million (ge-times (part million g) (part million h) a p (part-rises million g h q))
+share-down r a g h p q = quotient-rises r (a *ℤ part million h) (a *ℤ part million g) million
+    (ge-times (part million g) (part million h) a p (part-rises million g h q))
 
 pub share-drawn : (r : Rounding) (a : ℤ) → IsDrawn (pos 0) a (share r a)
 share-drawn r a = record { up = λ g h p q. share-up r a g h p q; down = λ g h p q. share-down r a g h p q }
@@ -114,7 +121,8 @@ gain-up r k a b p h = quotient-rises r (a *ℤ k) (b *ℤ k) million (times-le a
 
 pub gain-down : (r : Rounding) (k a b : ℤ) → k ≤ℤ pos 0 → a ≤ℤ b → gain r k b ≤ℤ gain r k a
 unfolding gain
-gain-down r k a b p h = quotient-rises r (b *ℤ k) (a *ℤ k) million (omega (arith, ints, ge-times a b k p h, *ℤ_comm k a, *ℤ_comm k b))
+gain-down r k a b p h = quotient-rises r (b *ℤ k) (a *ℤ k) million
+    (omega (arith, ints, ge-times a b k p h, *ℤ_comm k a, *ℤ_comm k b))
 
 pub gain-drawn : (r : Rounding) (k : ℤ) → IsDrawn (pos 0) k (gain r k)
 gain-drawn r k = record { up = λ a b p h. gain-up r k a b p h; down = λ a b p h. gain-down r k a b p h }
@@ -127,9 +135,17 @@ pub share-between_up : (r : Rounding) (a g : ℤ) → pos 0 ≤ℤ a → (pos 0 
 unfolding share
 share-between_up r a g p =
     let n = part million g in
-    let low : (pos 0 *ℤ divisor million) ≤ℤ (a *ℤ n) = omega (arith, ints, times-le (pos 0) a n (part-above million g) p) in
-    let high : (a *ℤ n) ≤ℤ (a *ℤ divisor million) = le-times n million a p (part-below million g (omega (arith, ints))) in (
-      omega (arith, ints, quotient-rises r (pos 0 *ℤ divisor million) (a *ℤ n) million low, quotient-exact r (pos 0) million),
+    let low : (pos 0 *ℤ divisor million) ≤ℤ (a *ℤ n) =
+    omega (arith, ints, times-le (pos 0) a n (part-above million g) p) in
+    let high : (a *ℤ n) ≤ℤ (a *ℤ divisor million) =
+    le-times n million a p (part-below million g (omega (arith, ints))) in (
+      omega (
+        arith,
+        ints,
+        quotient-rises r (pos 0 *ℤ divisor million) (a *ℤ n) million low,
+        quotient-exact r
+            (pos 0) million,
+      ),
       omega (arith, ints, quotient-rises r (a *ℤ n) (a *ℤ divisor million) million high, quotient-exact r a million),
     )
 
@@ -137,10 +153,18 @@ pub share-between_down : (r : Rounding) (a g : ℤ) → a ≤ℤ pos 0 → (a �
 unfolding share
 share-between_down r a g p =
     let n = part million g in
-    let high : (a *ℤ n) ≤ℤ (pos 0 *ℤ divisor million) = omega (arith, ints, times-le a (pos 0) n (part-above million g) p) in
-    let low : (a *ℤ divisor million) ≤ℤ (a *ℤ n) = ge-times n million a p (part-below million g (omega (arith, ints))) in (
+    let high : (a *ℤ n) ≤ℤ (pos 0 *ℤ divisor million) =
+    omega (arith, ints, times-le a (pos 0) n (part-above million g) p) in
+    let low : (a *ℤ divisor million) ≤ℤ (a *ℤ n) =
+    ge-times n million a p (part-below million g (omega (arith, ints))) in (
       omega (arith, ints, quotient-rises r (a *ℤ divisor million) (a *ℤ n) million low, quotient-exact r a million),
-      omega (arith, ints, quotient-rises r (a *ℤ n) (pos 0 *ℤ divisor million) million high, quotient-exact r (pos 0) million),
+      omega (
+        arith,
+        ints,
+        quotient-rises r (a *ℤ n) (pos 0 *ℤ divisor million) million high,
+        quotient-exact r
+            (pos 0) million,
+      ),
     )
 
 -- a share rises by at most as much as its whole
@@ -148,9 +172,16 @@ share-gains : (r : Rounding) (a b g : ℤ) → a ≤ℤ b → share r b g ≤ℤ
 unfolding share
 share-gains r a b g h =
     let n = part million g in
-    let gain : ((b -ℤ a) *ℤ n) ≤ℤ ((b -ℤ a) *ℤ divisor million) = le-times n million (b -ℤ a) (omega (arith, ints)) (part-below million g (omega (arith, ints))) in
+    let gain : ((b -ℤ a) *ℤ n) ≤ℤ ((b -ℤ a) *ℤ divisor million) =
+    le-times n million (b -ℤ a) (omega (arith, ints)) (part-below million g (omega (arith, ints))) in
     let more : (b *ℤ n) ≤ℤ (a *ℤ n +ℤ (b -ℤ a) *ℤ divisor million) = omega (arith, ints, gain, sub-times b a n) in
-    omega (arith, ints, quotient-rises r (b *ℤ n) (a *ℤ n +ℤ (b -ℤ a) *ℤ divisor million) million more, quotient-shifts r (a *ℤ n) (b -ℤ a) million)
+    omega (
+      arith,
+      ints,
+      quotient-rises r (b *ℤ n)
+          (a *ℤ n +ℤ (b -ℤ a) *ℤ divisor million) million more,
+      quotient-shifts r (a *ℤ n) (b -ℤ a) million,
+    )
 
 -- `keep` rises with the whole, and falls with the ppm where the whole is not negative
 pub keep-rises : (r : Rounding) (a b g : ℤ) → a ≤ℤ b → keep r a g ≤ℤ keep r b g
@@ -188,7 +219,15 @@ weighed-is c d w n = omega (arith, ints, *ℤ_comm c (w -ℤ n), sub-times w n c
 
 weighed-times : (c d w n u : ℤ) → weighed c d w n *ℤ u ≡ c *ℤ (w *ℤ u) +ℤ (d -ℤ c) *ℤ (n *ℤ u)
 weighed-times c d w n u =
-    omega (arith, ints, ap (λ (t : ℤ). t *ℤ u) (weighed-is c d w n), add-times (c *ℤ w) ((d -ℤ c) *ℤ n) u, times-times c w u, times-times (d -ℤ c) n u)
+    omega (
+      arith,
+      ints,
+      ap (λ (t : ℤ). t *ℤ u) (weighed-is c d w n),
+      add-times (c *ℤ w)
+          ((d -ℤ c) *ℤ n) u,
+      times-times c w u,
+      times-times (d -ℤ c) n u,
+    )
 
 -- `blend` rises with what is there and with what is added
 pub blend-old : (r : Rounding) (a b d m v : ℤ) → a ≤ℤ b → blend r a d m v ≤ℤ blend r b d m v
@@ -234,7 +273,8 @@ part-cross : (w u m : ℤ) → pos 1 ≤ℤ w → w ≤ℤ u → (part u m *ℤ 
 part-cross w u m p h =
     by_le_z m w
     (λ l. cross-same (part u m) (part w m) w u (omega (arith, ints, clamps)) (part-above w m) h)
-    (λ l. cross-whole (part u m) (part w m) w u (omega (arith, ints, clamps)) (part-below u m (omega (arith, ints))) (omega (arith, ints)))
+    (λ l. cross-whole (part u m) (part w m) w u (omega (arith, ints, clamps)) (part-below u m (omega (arith, ints)))
+    (omega (arith, ints)))
 
 divisor-rises : (u v : ℤ) → u ≤ℤ v → divisor u ≤ℤ divisor v
 divisor-rises u v h = omega (arith, ints, clamps)
@@ -261,13 +301,16 @@ blend-volume_less r c d m u v h =
 pub blend-volume : (r : Rounding) (c d m : ℤ) → IsDrawn d c (blend r c d m)
 blend-volume r c d m = record {
   up = λ u v p h. blend-volume_less r c d m v u
-      (ge-times _ _ (d -ℤ c) (omega (arith, ints)) (part-cross (divisor u) (divisor v) m (one-le_divisor u) (divisor-rises u v h)));
+      (ge-times _ _ (d -ℤ c) (omega (arith, ints))
+      (part-cross (divisor u) (divisor v) m (one-le_divisor u) (divisor-rises u v h)));
   down = λ u v p h. blend-volume_less r c d m u v
-      (le-times _ _ (d -ℤ c) (omega (arith, ints)) (part-cross (divisor u) (divisor v) m (one-le_divisor u) (divisor-rises u v h)));
+      (le-times _ _ (d -ℤ c) (omega (arith, ints))
+      (part-cross (divisor u) (divisor v) m (one-le_divisor u) (divisor-rises u v h)));
 }
 
 pub blend-monotone : (r : Rounding) → IsMonotone4 (blend r)
-blend-monotone r = monotone4 (blend r) (blend-old r) (blend-added r) (λ c d v. drawn-monotone c d (λ m. blend r c d m v) (blend-part r c d v))
+blend-monotone r = monotone4 (blend r) (blend-old r) (blend-added r)
+    (λ c d v. drawn-monotone c d (λ m. blend r c d m v) (blend-part r c d v))
     (λ c d m. drawn-monotone d c (blend r c d m) (blend-volume r c d m))
 
 -- a blend lies between what is there and what is added
@@ -277,11 +320,31 @@ blend-between_up r c d m v p =
     let w = divisor v in
     let n = part w m in
     let e : pos 0 ≤ℤ (d -ℤ c) = omega (arith, ints) in
-    let low : (c *ℤ w) ≤ℤ weighed c d w n = omega (arith, ints, weighed-is c d w n, le-times (pos 0) n (d -ℤ c) e (part-above w m)) in
+    let low : (c *ℤ w) ≤ℤ weighed c d w n = omega
+    (arith, ints, weighed-is c d w n, le-times (pos 0) n (d -ℤ c) e (part-above w m)) in
     let high : weighed c d w n ≤ℤ (d *ℤ w) =
-    omega (arith, ints, weighed-is c d w n, le-times n w (d -ℤ c) e (part-below w m (omega (arith, ints, one-le_divisor v))), sub-times d c w) in (
-      omega (arith, ints, quotient-rises r (c *ℤ w) (weighed c d w n) w low, quotient-exact_whole r c w (one-le_divisor v)),
-      omega (arith, ints, quotient-rises r (weighed c d w n) (d *ℤ w) w high, quotient-exact_whole r d w (one-le_divisor v)),
+    omega (
+      arith,
+      ints,
+      weighed-is c d w n,
+      le-times n w (d -ℤ c) e
+          (part-below w m (omega (arith, ints, one-le_divisor v))),
+      sub-times d c w,
+    ) in (
+      omega (
+        arith,
+        ints,
+        quotient-rises r (c *ℤ w) (weighed c d w n) w low,
+        quotient-exact_whole r c w
+            (one-le_divisor v),
+      ),
+      omega (
+        arith,
+        ints,
+        quotient-rises r (weighed c d w n) (d *ℤ w) w high,
+        quotient-exact_whole r d w
+            (one-le_divisor v),
+      ),
     )
 
 pub blend-between_down : (r : Rounding) (c d m v : ℤ) → d ≤ℤ c → (d ≤ℤ blend r c d m v) × (blend r c d m v ≤ℤ c)
@@ -290,34 +353,61 @@ blend-between_down r c d m v p =
     let w = divisor v in
     let n = part w m in
     let e : (d -ℤ c) ≤ℤ pos 0 = omega (arith, ints) in
-    let high : weighed c d w n ≤ℤ (c *ℤ w) = omega (arith, ints, weighed-is c d w n, ge-times (pos 0) n (d -ℤ c) e (part-above w m)) in
+    let high : weighed c d w n ≤ℤ (c *ℤ w) = omega
+    (arith, ints, weighed-is c d w n, ge-times (pos 0) n (d -ℤ c) e (part-above w m)) in
     let low : (d *ℤ w) ≤ℤ weighed c d w n =
-    omega (arith, ints, weighed-is c d w n, ge-times n w (d -ℤ c) e (part-below w m (omega (arith, ints, one-le_divisor v))), sub-times d c w) in (
-      omega (arith, ints, quotient-rises r (d *ℤ w) (weighed c d w n) w low, quotient-exact_whole r d w (one-le_divisor v)),
-      omega (arith, ints, quotient-rises r (weighed c d w n) (c *ℤ w) w high, quotient-exact_whole r c w (one-le_divisor v)),
+    omega (
+      arith,
+      ints,
+      weighed-is c d w n,
+      ge-times n w (d -ℤ c) e
+          (part-below w m (omega (arith, ints, one-le_divisor v))),
+      sub-times d c w,
+    ) in (
+      omega (
+        arith,
+        ints,
+        quotient-rises r (d *ℤ w) (weighed c d w n) w low,
+        quotient-exact_whole r d w
+            (one-le_divisor v),
+      ),
+      omega (
+        arith,
+        ints,
+        quotient-rises r (weighed c d w n) (c *ℤ w) w high,
+        quotient-exact_whole r c w
+            (one-le_divisor v),
+      ),
     )
 
 -- the same, as the contracts say it
 pub share-between : (r : Rounding) (a g : ℤ) → Holds (join (point (pos 0)) (point a)) (share r a g)
 share-between r a g =
     by_le_z (pos 0) a
-    (λ p. let h = share-between_up r a g p in record { above = omega (arith, ints, clamps); below = omega (arith, ints, clamps) })
-    (λ p. let h = share-between_down r a g p in record { above = omega (arith, ints, clamps); below = omega (arith, ints, clamps) })
+    (λ p. let h = share-between_up r a g p in record
+    { above = omega (arith, ints, clamps); below = omega (arith, ints, clamps) })
+    (λ p. let h = share-between_down r a g p in record
+    { above = omega (arith, ints, clamps); below = omega (arith, ints, clamps) })
 
 pub keep-between : (r : Rounding) (a g : ℤ) → Holds (join (point (pos 0)) (point a)) (keep r a g)
 keep-between r a g =
     by_le_z (pos 0) a
-    (λ p. let h = keep-between_up r a g p in record { above = omega (arith, ints, clamps); below = omega (arith, ints, clamps) })
-    (λ p. let h = keep-between_down r a g p in record { above = omega (arith, ints, clamps); below = omega (arith, ints, clamps) })
+    (λ p. let h = keep-between_up r a g p in record
+    { above = omega (arith, ints, clamps); below = omega (arith, ints, clamps) })
+    (λ p. let h = keep-between_down r a g p in record
+    { above = omega (arith, ints, clamps); below = omega (arith, ints, clamps) })
 
 pub blend-between : (r : Rounding) (c d m v : ℤ) → Holds (join (point c) (point d)) (blend r c d m v)
 blend-between r c d m v =
     by_le_z c d
-    (λ p. let h = blend-between_up r c d m v p in record { above = omega (arith, ints, clamps); below = omega (arith, ints, clamps) })
-    (λ p. let h = blend-between_down r c d m v p in record { above = omega (arith, ints, clamps); below = omega (arith, ints, clamps) })
+    (λ p. let h = blend-between_up r c d m v p in record
+    { above = omega (arith, ints, clamps); below = omega (arith, ints, clamps) })
+    (λ p. let h = blend-between_down r c d m v p in record
+    { above = omega (arith, ints, clamps); below = omega (arith, ints, clamps) })
 
 -- so each fits where the numbers do
-between-around : (a b z : ℤ) (n : ℕ) → Holds (around n) a → Holds (around n) b → Holds (join (point a) (point b)) z → Holds (around n) z
+between-around : (a b z : ℤ) (n : ℕ) → Holds (around n) a → Holds (around n) b → Holds (join (point a) (point b)) z →
+    Holds (around n) z
 between-around a b z n h k l = record { above = omega (arith, ints, clamps); below = omega (arith, ints, clamps) }
 
 zero-around : (n : ℕ) → Holds (around n) (pos 0)
@@ -335,8 +425,20 @@ gain-within r k a m p n e h i =
     let low : (neg_ℤ (pos n) *ℤ divisor million) ≤ℤ (a *ℤ k) = omega (arith, ints, clamps) in
     let high : (a *ℤ k) ≤ℤ (pos n *ℤ divisor million) = omega (arith, ints, clamps) in
     record {
-      above = omega (arith, ints, quotient-rises r (neg_ℤ (pos n) *ℤ divisor million) (a *ℤ k) million low, quotient-exact r (neg_ℤ (pos n)) million);
-      below = omega (arith, ints, quotient-rises r (a *ℤ k) (pos n *ℤ divisor million) million high, quotient-exact r (pos n) million);
+      above = omega (
+        arith,
+        ints,
+        quotient-rises r (neg_ℤ (pos n) *ℤ divisor million)
+            (a *ℤ k) million low,
+        quotient-exact r (neg_ℤ (pos n)) million,
+      );
+      below = omega (
+        arith,
+        ints,
+        quotient-rises r (a *ℤ k) (pos n *ℤ divisor million) million high,
+        quotient-exact r
+            (pos n) million,
+      );
     }
 
 pub gain-around : (r : Rounding) (k a : ℤ) → Holds amounts a → Holds gains k → Holds contents (gain r k a)
@@ -345,12 +447,15 @@ gain-around r k a h p = gain-within r k a greatest_amount steepest greatest_cont
 pub keep-around : (r : Rounding) (a g : ℤ) (n : ℕ) → Holds (around n) a → Holds (around n) (keep r a g)
 keep-around r a g n h = between-around (pos 0) a (keep r a g) n (zero-around n) h (keep-between r a g)
 
-pub blend-around : (r : Rounding) (c d m v : ℤ) (n : ℕ) → Holds (around n) c → Holds (around n) d → Holds (around n) (blend r c d m v)
+pub blend-around : (r : Rounding) (c d m v : ℤ) (n : ℕ) → Holds (around n) c → Holds (around n) d →
+    Holds (around n) (blend r c d m v)
 blend-around r c d m v n h k = between-around c d (blend r c d m v) n h k (blend-between r c d m v)
 
 -- the definitions, opened
-same-blend : (r : Rounding) (c d m w v n : ℤ) → w ≡ v → n ≡ part v m → quotient r (weighed c d w (part w m)) w ≡ quotient r (weighed c d v n) v
-same-blend r c d m w v n e f = ap (λ (t : ℤ). quotient r (weighed c d t (part t m)) t) e ∙ ap (λ (t : ℤ). quotient r (weighed c d v t) v) (sym f)
+same-blend : (r : Rounding) (c d m w v n : ℤ) → w ≡ v → n ≡ part v m →
+    quotient r (weighed c d w (part w m)) w ≡ quotient r (weighed c d v n) v
+same-blend r c d m w v n e f = ap (λ (t : ℤ). quotient r (weighed c d t (part t m)) t) e ∙
+    ap (λ (t : ℤ). quotient r (weighed c d v t) v) (sym f)
 
 pub share-is : (r : Rounding) (a g : ℤ) → share r a g ≡ quotient r (a *ℤ part million g) million
 unfolding share
@@ -364,6 +469,7 @@ pub keep-is : (r : Rounding) (a g : ℤ) → keep r a g ≡ a -ℤ share r a g
 unfolding keep
 keep-is r a g = refl
 
-pub blend-is : (r : Rounding) (c d m v n : ℤ) → pos 1 ≤ℤ v → n ≡ part v m → blend r c d m v ≡ quotient r (weighed c d v n) v
+pub blend-is : (r : Rounding) (c d m v n : ℤ) → pos 1 ≤ℤ v → n ≡ part v m →
+    blend r c d m v ≡ quotient r (weighed c d v n) v
 unfolding blend
 blend-is r c d m v n h e = same-blend r c d m (divisor v) v n (divisor-same v h) e

@@ -18,10 +18,12 @@ turned : (k d c : ℤ) → (k *ℤ d) *ℤ c ≡ (k *ℤ c) *ℤ d
 turned k d c = times-times k d c ∙ ap (λ t. k *ℤ t) (*ℤ_comm d c) ∙ sym (times-times k c d)
 
 left-sum : (c a b : ℤ) → c *ℤ (a +ℤ b) ≡ c *ℤ a +ℤ c *ℤ b
-left-sum c a b = *ℤ_comm c (a +ℤ b) ∙ add-times a b c ∙ ap (λ t. t +ℤ b *ℤ c) (*ℤ_comm a c) ∙ ap (λ t. c *ℤ a +ℤ t) (*ℤ_comm b c)
+left-sum c a b = *ℤ_comm c (a +ℤ b) ∙ add-times a b c ∙ ap (λ t. t +ℤ b *ℤ c) (*ℤ_comm a c) ∙
+    ap (λ t. c *ℤ a +ℤ t) (*ℤ_comm b c)
 
 left-difference : (c a b : ℤ) → c *ℤ (a -ℤ b) ≡ c *ℤ a -ℤ c *ℤ b
-left-difference c a b = *ℤ_comm c (a -ℤ b) ∙ sub-times a b c ∙ ap (λ t. t -ℤ b *ℤ c) (*ℤ_comm a c) ∙ ap (λ t. c *ℤ a -ℤ t) (*ℤ_comm b c)
+left-difference c a b = *ℤ_comm c (a -ℤ b) ∙ sub-times a b c ∙ ap (λ t. t -ℤ b *ℤ c) (*ℤ_comm a c) ∙
+    ap (λ t. c *ℤ a -ℤ t) (*ℤ_comm b c)
 
 -- it rises where k is not negative, and falls where k is not positive
 step-is : (f : ℤ → ℤ) (k a b : ℤ) → IsLinear f k → f b ≡ f a +ℤ k *ℤ (b -ℤ a)
@@ -49,7 +51,8 @@ linear-monotone r f k w h =
 abbrev pub held : ℤ → ℤ → ℤ → ℤ → ℤ → ℤ → ℤ → ℤ
 held holdup slope x xa yb l v = (x *ℤ kept holdup slope l v +ℤ (xa *ℤ l) *ℤ million) +ℤ (yb *ℤ v) *ℤ million
 
-pub tray-is : (r : Rounding) (holdup slope x xa yb l v : ℤ) → tray r holdup slope x xa yb l v ≡ quotient r (held holdup slope x xa yb l v) (holdup *ℤ million)
+pub tray-is : (r : Rounding) (holdup slope x xa yb l v : ℤ) →
+    tray r holdup slope x xa yb l v ≡ quotient r (held holdup slope x xa yb l v) (holdup *ℤ million)
 unfolding tray
 tray-is r holdup slope x xa yb l v = refl
 
@@ -73,7 +76,8 @@ moves : (x u w z d : ℤ) → x *ℤ ((u -ℤ (z +ℤ d)) -ℤ w) ≡ x *ℤ ((u
 moves x u w z d = ap (λ t. x *ℤ t) (omega (arith, ints)) ∙ left-difference x ((u -ℤ z) -ℤ w) d
 
 moved_in : (y z d m : ℤ) → (y *ℤ (z +ℤ d)) *ℤ m ≡ (y *ℤ z) *ℤ m +ℤ (y *ℤ m) *ℤ d
-moved_in y z d m = ap (λ t. t *ℤ m) (left-sum y z d) ∙ add-times (y *ℤ z) (y *ℤ d) m ∙ ap (λ t. (y *ℤ z) *ℤ m +ℤ t) (turned y d m)
+moved_in y z d m = ap (λ t. t *ℤ m) (left-sum y z d) ∙ add-times (y *ℤ z) (y *ℤ d) m ∙
+    ap (λ t. (y *ℤ z) *ℤ m +ℤ t) (turned y d m)
 
 moved_out : (x u w z d m : ℤ) → x *ℤ ((u -ℤ (z +ℤ d) *ℤ m) -ℤ w) ≡ x *ℤ ((u -ℤ z *ℤ m) -ℤ w) -ℤ (x *ℤ m) *ℤ d
 moved_out x u w z d m =
@@ -82,7 +86,10 @@ moved_out x u w z d m =
 
 linear-liquid : (x y u w q m : ℤ) → IsLinear (λ l. (x *ℤ ((u -ℤ l *ℤ m) -ℤ w) +ℤ (y *ℤ l) *ℤ m) +ℤ q) (y *ℤ m -ℤ x *ℤ m)
 linear-liquid x y u w q m =
-    record { grows = λ z d. rw (moved_out x u w z d m) (rw (moved_in y z d m) (omega (arith, ints, sub-times (y *ℤ m) (x *ℤ m) d))) }
+    record {
+      grows = λ z d. rw (moved_out x u w z d m)
+          (rw (moved_in y z d m) (omega (arith, ints, sub-times (y *ℤ m) (x *ℤ m) d)));
+    }
 
 vapour_out : (x u z d s : ℤ) → x *ℤ (u -ℤ (z +ℤ d) *ℤ s) ≡ x *ℤ (u -ℤ z *ℤ s) -ℤ (x *ℤ s) *ℤ d
 vapour_out x u z d s =
@@ -91,15 +98,20 @@ vapour_out x u z d s =
 
 linear-vapour : (x y u p m s : ℤ) → IsLinear (λ v. (x *ℤ (u -ℤ v *ℤ s) +ℤ p) +ℤ (y *ℤ v) *ℤ m) (y *ℤ m -ℤ x *ℤ s)
 linear-vapour x y u p m s =
-    record { grows = λ z d. rw (vapour_out x u z d s) (rw (moved_in y z d m) (omega (arith, ints, sub-times (y *ℤ m) (x *ℤ s) d))) }
+    record {
+      grows = λ z d. rw (vapour_out x u z d s)
+          (rw (moved_in y z d m) (omega (arith, ints, sub-times (y *ℤ m) (x *ℤ s) d)));
+    }
 
 -- what the code divides, by its three products
 pub divided : (r : Rounding) (holdup slope x xa yb l v p q s t w : ℤ) →
-    p ≡ x *ℤ kept holdup slope l v → q ≡ xa *ℤ (l *ℤ million) → s ≡ yb *ℤ (v *ℤ million) → t ≡ (p +ℤ q) +ℤ s → w ≡ holdup *ℤ million →
+    p ≡ x *ℤ kept holdup slope l v → q ≡ xa *ℤ (l *ℤ million) → s ≡ yb *ℤ (v *ℤ million) → t ≡ (p +ℤ q) +ℤ s →
+    w ≡ holdup *ℤ million →
     quotient r t w ≡ tray r holdup slope x xa yb l v
 unfolding tray
 divided r holdup slope x xa yb l v p q s t w e f g h i =
-    let all : t ≡ held holdup slope x xa yb l v = omega (arith, ints, e, f, g, h, times-times xa l million, times-times yb v million) in
+    let all : t ≡ held holdup slope x xa yb l v =
+    omega (arith, ints, e, f, g, h, times-times xa l million, times-times yb v million) in
     ap (λ u. quotient r u w) all ∙ ap (quotient r (held holdup slope x xa yb l v)) i
 
 -- how what is divided grows with each argument
@@ -112,11 +124,13 @@ held-above holdup slope x yb l v = linear-above (x *ℤ kept holdup slope l v) (
 held-below : (holdup slope x xa l v : ℤ) → IsLinear (λ yb. held holdup slope x xa yb l v) (v *ℤ million)
 held-below holdup slope x xa l v = linear-below (x *ℤ kept holdup slope l v +ℤ (xa *ℤ l) *ℤ million) v million
 
-held-liquid : (holdup slope x xa yb v : ℤ) → IsLinear (λ l. held holdup slope x xa yb l v) (xa *ℤ million -ℤ x *ℤ million)
+held-liquid : (holdup slope x xa yb v : ℤ) → IsLinear (λ l. held holdup slope x xa yb l v)
+    (xa *ℤ million -ℤ x *ℤ million)
 held-liquid holdup slope x xa yb v = linear-liquid x xa (holdup *ℤ million) (v *ℤ slope) ((yb *ℤ v) *ℤ million) million
 
 held-vapour : (holdup slope x xa yb l : ℤ) → IsLinear (λ v. held holdup slope x xa yb l v) (yb *ℤ million -ℤ x *ℤ slope)
-held-vapour holdup slope x xa yb l = linear-vapour x yb (holdup *ℤ million -ℤ l *ℤ million) ((xa *ℤ l) *ℤ million) million slope
+held-vapour holdup slope x xa yb l = linear-vapour x yb (holdup *ℤ million -ℤ l *ℤ million)
+    ((xa *ℤ l) *ℤ million) million slope
 
 -- it rises with each content, where what flows and what stays is not negative
 pub record IsPushed (holdup slope l v : ℤ) : Type 0 where
@@ -132,9 +146,12 @@ tray-contents r holdup slope l v p x xa yb y ya zb h k i =
     (omega (
       arith,
       ints,
-      linear-up (λ t. held holdup slope t xa yb l v) (kept holdup slope l v) x y (held-own holdup slope xa yb l v) p.own h,
-      linear-up (λ t. held holdup slope y t yb l v) (l *ℤ million) xa ya (held-above holdup slope y yb l v) (omega (arith, ints, p.liquid)) k,
-      linear-up (λ t. held holdup slope y ya t l v) (v *ℤ million) yb zb (held-below holdup slope y ya l v) (omega (arith, ints, p.vapour)) i,
+      linear-up (λ t. held holdup slope t xa yb l v) (kept holdup slope l v) x y
+          (held-own holdup slope xa yb l v) p.own h,
+      linear-up (λ t. held holdup slope y t yb l v) (l *ℤ million) xa ya (held-above holdup slope y yb l v)
+          (omega (arith, ints, p.liquid)) k,
+      linear-up (λ t. held holdup slope y ya t l v) (v *ℤ million) yb zb (held-below holdup slope y ya l v)
+          (omega (arith, ints, p.vapour)) i,
     ))
 
 -- the liquid draws it to the content above, and the vapour to what comes from below
@@ -148,11 +165,13 @@ tray-liquid r holdup slope x xa yb v =
       down = λ a b p l. linear-down f k a b (held-liquid holdup slope x xa yb v) (omega (arith, ints)) l;
     })
 
-pub tray-vapour : (r : Rounding) (holdup slope x xa yb l : ℤ) → IsDrawn (x *ℤ slope) (yb *ℤ million) (tray r holdup slope x xa yb l)
+pub tray-vapour : (r : Rounding) (holdup slope x xa yb l : ℤ) →
+    IsDrawn (x *ℤ slope) (yb *ℤ million) (tray r holdup slope x xa yb l)
 unfolding tray
 tray-vapour r holdup slope x xa yb l =
     quotient-drawn r (x *ℤ slope) (yb *ℤ million) (held holdup slope x xa yb l) (holdup *ℤ million)
-    (linear-drawn (x *ℤ slope) (yb *ℤ million) (held holdup slope x xa yb l) _ (held-vapour holdup slope x xa yb l) refl)
+    (linear-drawn (x *ℤ slope) (yb *ℤ million) (held holdup slope x xa yb l) _
+    (held-vapour holdup slope x xa yb l) refl)
 
 pub tray-monotone : (r : Rounding) (holdup slope : ℤ) → IsMonotone5 (tray r holdup slope)
 unfolding tray
@@ -175,7 +194,8 @@ tray-monotone r holdup slope =
 pub leaving : (slope v : ℤ) → Holds slopes slope → Holds stage_flows v → pos 0 ≤ℤ (v *ℤ slope)
 leaving slope v s h = omega (arith, ints, times-le (pos 0) v slope s.above h.above)
 
-pub kept-weighs : (holdup slope l v : ℤ) → Holds holdups holdup → Holds slopes slope → Holds stage_flows l → Holds stage_flows v → IsDrainable holdup slope l v →
+pub kept-weighs : (holdup slope l v : ℤ) → Holds holdups holdup → Holds slopes slope → Holds stage_flows l →
+    Holds stage_flows v → IsDrainable holdup slope l v →
     Holds weights (kept holdup slope l v)
 kept-weighs holdup slope l v h s i j d =
     let n = leaving slope v s j in
@@ -190,7 +210,8 @@ weighed-high a k n h p = times-le a (pos n) k p h.below
 
 -- the content after a tick, where the three contents are of this size
 pub tray-around : (r : Rounding) (holdup slope x xa yb l v : ℤ) → Holds wide x → Holds wide xa → Holds contents yb →
-    Holds holdups holdup → Holds slopes slope → Holds stage_flows l → Holds stage_flows v → IsDrainable holdup slope l v →
+    Holds holdups holdup → Holds slopes slope → Holds stage_flows l → Holds stage_flows v →
+    IsDrainable holdup slope l v →
     Holds stage_contents (tray r holdup slope x xa yb l v)
 unfolding tray
 tray-around r holdup slope x xa yb l v a b c h s i j d =
@@ -199,10 +220,38 @@ tray-around r holdup slope x xa yb l v a b c h s i j d =
     let w = holdup *ℤ million in
     let one : pos 1 ≤ℤ w = omega (arith, ints) in
     let low : (neg_ℤ (pos greatest_stage_content) *ℤ w) ≤ℤ held holdup slope x xa yb l v =
-    omega (arith, ints, weighed-low x (kept holdup slope l v) widest a k.above, weighed-low xa l widest b i.above, weighed-low yb v greatest_content c j.above, d.leaves, d.passes) in
+    omega (
+      arith,
+      ints,
+      weighed-low x (kept holdup slope l v) widest a k.above,
+      weighed-low xa l widest b i.above,
+      weighed-low yb v greatest_content c j.above,
+      d.leaves,
+      d.passes,
+    ) in
     let high : held holdup slope x xa yb l v ≤ℤ (pos greatest_stage_content *ℤ w) =
-    omega (arith, ints, weighed-high x (kept holdup slope l v) widest a k.above, weighed-high xa l widest b i.above, weighed-high yb v greatest_content c j.above, d.leaves, d.passes) in
+    omega (
+      arith,
+      ints,
+      weighed-high x (kept holdup slope l v) widest a k.above,
+      weighed-high xa l widest b i.above,
+      weighed-high yb v greatest_content c j.above,
+      d.leaves,
+      d.passes,
+    ) in
     record {
-      above = omega (arith, ints, quotient-rises r (neg_ℤ (pos greatest_stage_content) *ℤ w) (held holdup slope x xa yb l v) w low, quotient-exact_whole r (neg_ℤ (pos greatest_stage_content)) w one);
-      below = omega (arith, ints, quotient-rises r (held holdup slope x xa yb l v) (pos greatest_stage_content *ℤ w) w high, quotient-exact_whole r (pos greatest_stage_content) w one);
+      above = omega (
+        arith,
+        ints,
+        quotient-rises r (neg_ℤ (pos greatest_stage_content) *ℤ w)
+            (held holdup slope x xa yb l v) w low,
+        quotient-exact_whole r (neg_ℤ (pos greatest_stage_content)) w one,
+      );
+      below = omega (
+        arith,
+        ints,
+        quotient-rises r (held holdup slope x xa yb l v)
+            (pos greatest_stage_content *ℤ w) w high,
+        quotient-exact_whole r (pos greatest_stage_content) w one,
+      );
     }

@@ -11,7 +11,11 @@ returns c =
     let limits = c.args.limits.now in
     let contents = c.args.contents.now in
     filled c.args.new.now (_ ∷ _ ∷ _ ∷ _ ∷ []) c.requires
-    ∙ same_cons _ _ _ _ (given1 (clamp limits.volume) _ _ contents.volume (search rules) c.clamp.ensures.value (to_z-of_z w64 _ (search rules)))
-    (same_cons _ _ _ _ (given1 (clamp limits.flow) _ _ contents.flow (search rules) c.clamp-2.ensures.value (to_z-of_z w64 _ (search rules)))
-    (same_cons _ _ _ _ (given1 (clamp limits.conc) _ _ contents.conc (search rules) c.clamp-3.ensures.value (to_z-of_z w64 _ (search rules)))
-    (same_cons _ _ _ _ (given1 (clamp limits.temp) _ _ contents.temp (search rules) c.clamp-4.ensures.value (to_z-of_z w64 _ (search rules))) refl)))
+    ∙ same_cons _ _ _ _ (given1 (clamp limits.volume) _ _ contents.volume (search rules) c.clamp.ensures.value
+    (to_z-of_z w64 _ (search rules)))
+    (same_cons _ _ _ _ (given1 (clamp limits.flow) _ _ contents.flow (search rules) c.clamp-2.ensures.value
+    (to_z-of_z w64 _ (search rules)))
+    (same_cons _ _ _ _ (given1 (clamp limits.conc) _ _ contents.conc (search rules) c.clamp-3.ensures.value
+    (to_z-of_z w64 _ (search rules)))
+    (same_cons _ _ _ _ (given1 (clamp limits.temp) _ _ contents.temp (search rules) c.clamp-4.ensures.value
+    (to_z-of_z w64 _ (search rules))) refl)))

@@ -13,4 +13,5 @@ returns c =
     ∙ same_cons _ _ _ _ (read states 1 _ (omega arith) c.index-state-1.is)
     (same_cons _ _ _ _ (read states 2 _ (omega arith) c.index-state-2.is)
     (same_cons _ _ _ _ (read states 3 _ (omega arith) c.index-state-3.is)
-    (same_cons _ _ _ _ (c.clamp_band.ensures.hull ∙ ap (hull1 (clamp c.args.limits.now.signal)) (read states 0 _ (omega arith) c.index-state-0.is)) refl)))
+    (same_cons _ _ _ _ (c.clamp_band.ensures.hull ∙
+    ap (hull1 (clamp c.args.limits.now.signal)) (read states 0 _ (omega arith) c.index-state-0.is)) refl)))

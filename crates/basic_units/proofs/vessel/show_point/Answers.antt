@@ -14,4 +14,5 @@ returns c =
     ∙ same_cons _ _ _ _ (to_z-of_z w64 (slice_index_or c.args.state.now 1 (pos 0)) (search rules))
     (same_cons _ _ _ _ (to_z-of_z w64 (slice_index_or c.args.state.now 2 (pos 0)) (search rules))
     (same_cons _ _ _ _ (to_z-of_z w64 (slice_index_or c.args.state.now 3 (pos 0)) (search rules))
-    (same_cons _ _ _ _ (given1 (clamp c.args.limits.now.signal) _ _ volume (search rules) c.clamp.ensures.value (to_z-of_z w64 volume (search rules))) refl)))
+    (same_cons _ _ _ _ (given1 (clamp c.args.limits.now.signal) _ _ volume (search rules) c.clamp.ensures.value
+    (to_z-of_z w64 volume (search rules))) refl)))

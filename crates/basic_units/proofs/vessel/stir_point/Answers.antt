@@ -29,15 +29,22 @@ returns c =
     let f : to_z w64 (of_z w64 in_flow) ≡ in_flow = to_z-of_z w64 in_flow (search rules) in
     let part : ℤ = share Floor k valve in
     let drained : to_z w64 (of_z w64 c.share-drained.result) ≡ part =
-    given2 (share Floor) _ _ _ k valve (search rules) c.share-drained.ensures.value (to_z-of_z w64 k c.ranges.k) (to_z-of_z w64 valve (search rules)) in
-    let kept : to_z w64 (of_z w64 c.keep.result) ≡ keep Floor volume part = given2 (keep Floor) _ _ _ volume part (search rules) c.keep.ensures.value v drained in
+    given2 (share Floor) _ _ _ k valve (search rules) c.share-drained.ensures.value (to_z-of_z w64 k c.ranges.k)
+    (to_z-of_z w64 valve (search rules)) in
+    let kept : to_z w64 (of_z w64 c.keep.result) ≡ keep Floor volume part =
+    given2 (keep Floor) _ _ _ volume part (search rules) c.keep.ensures.value v drained in
     record {
-      volume = given2 ◌+ℤ◌ (to_z w64 (of_z w64 c.keep.result)) (to_z w64 (of_z w64 in_flow)) _ (keep Floor volume part) in_flow (search rules) c.add.ensures kept f;
+      volume = given2 ◌+ℤ◌ (to_z w64 (of_z w64 c.keep.result)) (to_z w64 (of_z w64 in_flow)) _
+          (keep Floor volume part) in_flow (search rules) c.add.ensures kept f;
       flow = given2 (share Floor) _ _ _ volume part (search rules) c.share.ensures.value v drained;
-      conc = given4 (blend Floor) _ _ _ _ _ conc _ in_flow volume (search rules) c.blend.ensures.value (to_z-of_z w64 conc (search rules)) (to_z-of_z w64 _ (search rules)) f v;
-      temp = given4 (blend Floor) _ _ _ _ _ temp _ in_flow volume (search rules) c.blend-2.ensures.value (to_z-of_z w64 temp (search rules)) (to_z-of_z w64 _ (search rules)) f v;
+      conc = given4 (blend Floor) _ _ _ _ _ conc _ in_flow volume (search rules) c.blend.ensures.value
+          (to_z-of_z w64 conc (search rules)) (to_z-of_z w64 _ (search rules)) f v;
+      temp = given4 (blend Floor) _ _ _ _ _ temp _ in_flow volume (search rules) c.blend-2.ensures.value
+          (to_z-of_z w64 temp (search rules)) (to_z-of_z w64 _ (search rules)) f v;
       wide = (
-        read-wide _ (blended-wide _ _ c.blend.result c.requires.states.conc c.requires.inputs.conc c.blend.ensures.between),
-        read-wide _ (blended-wide _ _ c.blend-2.result c.requires.states.temp c.requires.inputs.temp c.blend-2.ensures.between),
+        read-wide _ (blended-wide _ _ c.blend.result c.requires.states.conc c.requires.inputs.conc
+            c.blend.ensures.between),
+        read-wide _ (blended-wide _ _ c.blend-2.result c.requires.states.temp c.requires.inputs.temp
+            c.blend-2.ensures.between),
       );
     }

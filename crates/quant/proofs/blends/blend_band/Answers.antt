@@ -15,7 +15,8 @@ exact : (c : goal.After-blend-2) → IsHull (IsValue4 (blend Floor) c.args.c c.a
 exact c =
     let l = c.opposite_ends-least in
     let g = c.opposite_ends-greatest in
-    turned-hull (blend Floor) (blend-old Floor) (blend-added Floor) (blend-turned Floor) c.args.c c.args.d c.args.m c.args.v
+    turned-hull (blend Floor) (blend-old Floor) (blend-added Floor)
+    (blend-turned Floor) c.args.c c.args.d c.args.m c.args.v
     _ _ _ _ l.result g.result c.blend.result c.blend-2.result
     (read-band _ _ c.c.view_is c.c.invariant) (read-band _ _ c.d.view_is c.d.invariant)
     (read-ends _ _ c.c.view_is (search rules) (search rules)) (read-ends _ _ c.d.view_is (search rules) (search rules))
@@ -33,9 +34,11 @@ returns c =
     record {
       hull = one_hull _ _ (hull4 (blend Floor) c.args.c c.args.d c.args.m c.args.v) (exact c)
           (hull4-exact (blend Floor) c.args.c c.args.d c.args.m c.args.v (read-band _ _ c.c.view_is c.c.invariant)
-          (read-band _ _ c.d.view_is c.d.invariant) (holds-band c.args.m _ inside.0) (holds-band c.args.v _ inside.1) (blend-monotone Floor));
+          (read-band _ _ c.d.view_is c.d.invariant) (holds-band c.args.m _ inside.0) (holds-band c.args.v _ inside.1)
+          (blend-monotone Floor));
       exact = exact c;
-      between = hull-inside_contents (blend Floor) (blend-between Floor) c.args.c c.args.d c.args.m c.args.v _ (exact c);
+      between = hull-inside_contents (blend Floor) (blend-between Floor) c.args.c c.args.d c.args.m c.args.v _
+          (exact c);
     }
 
 pub blend-requires-2-clause-old : goal.blend-requires-2-clause-old

@@ -20,9 +20,12 @@ exact c =
     let k = to_z-of_z w64 c.args.k c.ranges.k in
     drawn-hull _ _ (gain Floor c.args.k) c.args.a c.by_sign.result c.by_sign-2.result _ _ (gain-drawn Floor c.args.k)
     (read-band _ _ c.a.view_is c.a.invariant)
-    (takes _ _ _ _ _ _ _ _ _ refl k a.0 a.1 c.by_sign.ensures) (takes _ _ _ _ _ _ _ _ _ refl k a.1 a.0 c.by_sign-2.ensures)
-    (given2 (gain Floor) _ _ c.gain.result c.args.k c.by_sign.result (search rules) c.gain.ensures.value k (to_z-of_z w64 _ (search rules)))
-    (given2 (gain Floor) _ _ c.gain-2.result c.args.k c.by_sign-2.result (search rules) c.gain-2.ensures.value k (to_z-of_z w64 _ (search rules)))
+    (takes _ _ _ _ _ _ _ _ _ refl k a.0 a.1 c.by_sign.ensures)
+    (takes _ _ _ _ _ _ _ _ _ refl k a.1 a.0 c.by_sign-2.ensures)
+    (given2 (gain Floor) _ _ c.gain.result c.args.k c.by_sign.result (search rules) c.gain.ensures.value k
+    (to_z-of_z w64 _ (search rules)))
+    (given2 (gain Floor) _ _ c.gain-2.result c.args.k c.by_sign-2.result (search rules) c.gain-2.ensures.value k
+    (to_z-of_z w64 _ (search rules)))
 
 pub invariant_of-result : goal.invariant_of-result
 invariant_of-result c = hull-ordered _ _ (exact c)
@@ -33,7 +36,8 @@ returns-clause-exact c = exact c
 pub returns-clause-hull : goal.returns-clause-hull
 returns-clause-hull c =
     one_hull _ _ (hull1 (gain Floor c.args.k) c.args.a) (exact c)
-    (hull1-exact (gain Floor c.args.k) c.args.a (read-band _ _ c.a.view_is c.a.invariant) (gain-monotone Floor c.args.k))
+    (hull1-exact (gain Floor c.args.k) c.args.a (read-band _ _ c.a.view_is c.a.invariant)
+    (gain-monotone Floor c.args.k))
 
 pub gain-requires-2-clause-number : goal.gain-requires-2-clause-number
 gain-requires-2-clause-number c =
@@ -41,4 +45,5 @@ gain-requires-2-clause-number c =
     let k = to_z-of_z w64 c.args.k c.ranges.k in
     subst (Holds amounts) (sym (to_z-of_z w64 c.by_sign-2.result (search rules)))
     (inside-holds c.args.a amounts c.by_sign-2.result c.requires.number
-    (takes-held _ _ c.args.a _ (read-band _ _ c.a.view_is c.a.invariant) (takes _ _ _ _ _ _ _ _ _ refl k a.1 a.0 c.by_sign-2.ensures)))
+    (takes-held _ _ c.args.a _ (read-band _ _ c.a.view_is c.a.invariant)
+    (takes _ _ _ _ _ _ _ _ _ refl k a.1 a.0 c.by_sign-2.ensures)))

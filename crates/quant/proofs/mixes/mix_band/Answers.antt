@@ -16,7 +16,8 @@ exact c =
     let l = c.opposite_ends-least in
     let g = c.opposite_ends-greatest in
     exchanged-hull (mix Floor) c.args.c c.args.d c.args.m c.args.n _
-    (turned-hull (λ c d n m. mix Floor c d m n) (λ a b d n m. mix-first Floor a b d m n) (λ c a b n m. mix-second Floor c a b m n)
+    (turned-hull (λ c d n m. mix Floor c d m n) (λ a b d n m. mix-first Floor a b d m n)
+    (λ c a b n m. mix-second Floor c a b m n)
     (mix-turned Floor) c.args.c c.args.d c.args.n c.args.m _ _ _ _ l.result g.result c.mix.result c.mix-2.result
     (read-band _ _ c.c.view_is c.c.invariant) (read-band _ _ c.d.view_is c.d.invariant)
     (read-ends _ _ c.c.view_is (search rules) (search rules)) (read-ends _ _ c.d.view_is (search rules) (search rules))
@@ -34,7 +35,8 @@ returns c =
     record {
       hull = one_hull _ _ (hull4 (mix Floor) c.args.c c.args.d c.args.m c.args.n) (exact c)
           (hull4-exact (mix Floor) c.args.c c.args.d c.args.m c.args.n (read-band _ _ c.c.view_is c.c.invariant)
-          (read-band _ _ c.d.view_is c.d.invariant) (holds-band c.args.m _ inside.1) (holds-band c.args.n _ inside.0) (mix-monotone Floor));
+          (read-band _ _ c.d.view_is c.d.invariant) (holds-band c.args.m _ inside.1) (holds-band c.args.n _ inside.0)
+          (mix-monotone Floor));
       exact = exact c;
       between = hull-inside_contents (mix Floor) (mix-between Floor) c.args.c c.args.d c.args.m c.args.n _ (exact c);
     }

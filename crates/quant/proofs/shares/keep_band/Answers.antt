@@ -16,7 +16,8 @@ exact c =
     let a = read-ends _ c.args.a c.a.view_is (search rules) (search rules) in
     let g = read-ends _ c.args.g c.g.view_is (search rules) (search rules) in
     drawn-hull2 (keep Floor) (keep-rises Floor) (λ a. a) (λ a. pos 0) (keep-drawn Floor) c.args.a c.args.g
-    _ _ _ _ c.keep.result c.keep-2.result (read-band _ _ c.a.view_is c.a.invariant) (read-band _ _ c.g.view_is c.g.invariant) a.0 a.1
+    _ _ _ _ c.keep.result c.keep-2.result (read-band _ _ c.a.view_is c.a.invariant)
+    (read-band _ _ c.g.view_is c.g.invariant) a.0 a.1
     (takes_back _ _ _ _ _ (takes _ _ _ _ _ _ _ _ _ refl a.0 g.1 g.0 c.by_sign.ensures))
     (takes_back _ _ _ _ _ (takes _ _ _ _ _ _ _ _ _ refl a.1 g.0 g.1 c.by_sign-2.ensures))
     (search rules) (search rules) (search rules) (search rules) c.keep.ensures.value c.keep-2.ensures.value
@@ -27,7 +28,8 @@ invariant_of-result c = hull-ordered _ _ (exact c)
 pub returns : goal.returns
 returns c = record {
   hull = one_hull _ _ (hull2 (keep Floor) c.args.a c.args.g) (exact c)
-      (hull2-exact (keep Floor) c.args.a c.args.g (read-band _ _ c.a.view_is c.a.invariant) (read-band _ _ c.g.view_is c.g.invariant)
+      (hull2-exact (keep Floor) c.args.a c.args.g (read-band _ _ c.a.view_is c.a.invariant)
+      (read-band _ _ c.g.view_is c.g.invariant)
       (keep-monotone Floor));
   exact = exact c;
   between = hull-between (keep Floor) (keep-between Floor) c.args.a c.args.g _ (exact c);

@@ -16,8 +16,10 @@ exact c =
     let a = read-ends _ c.args.a c.a.view_is (search rules) (search rules) in
     let g = read-ends _ c.args.g c.g.view_is (search rules) (search rules) in
     drawn-hull2 (share Floor) (share-rises Floor) (λ a. pos 0) (λ a. a) (share-drawn Floor) c.args.a c.args.g
-    _ _ _ _ c.share.result c.share-2.result (read-band _ _ c.a.view_is c.a.invariant) (read-band _ _ c.g.view_is c.g.invariant) a.0 a.1
-    (takes _ _ _ _ _ _ _ _ _ refl a.0 g.0 g.1 c.by_sign.ensures) (takes _ _ _ _ _ _ _ _ _ refl a.1 g.1 g.0 c.by_sign-2.ensures)
+    _ _ _ _ c.share.result c.share-2.result (read-band _ _ c.a.view_is c.a.invariant)
+    (read-band _ _ c.g.view_is c.g.invariant) a.0 a.1
+    (takes _ _ _ _ _ _ _ _ _ refl a.0 g.0 g.1 c.by_sign.ensures)
+    (takes _ _ _ _ _ _ _ _ _ refl a.1 g.1 g.0 c.by_sign-2.ensures)
     (search rules) (search rules) (search rules) (search rules) c.share.ensures.value c.share-2.ensures.value
 
 pub invariant_of-result : goal.invariant_of-result
@@ -26,7 +28,8 @@ invariant_of-result c = hull-ordered _ _ (exact c)
 pub returns : goal.returns
 returns c = record {
   hull = one_hull _ _ (hull2 (share Floor) c.args.a c.args.g) (exact c)
-      (hull2-exact (share Floor) c.args.a c.args.g (read-band _ _ c.a.view_is c.a.invariant) (read-band _ _ c.g.view_is c.g.invariant)
+      (hull2-exact (share Floor) c.args.a c.args.g (read-band _ _ c.a.view_is c.a.invariant)
+      (read-band _ _ c.g.view_is c.g.invariant)
       (share-monotone Floor));
   exact = exact c;
   between = hull-between (share Floor) (share-between Floor) c.args.a c.args.g _ (exact c);

@@ -16,7 +16,8 @@ returns-clause-hull c =
 
 pub returns-clause-exact : goal.returns-clause-exact
 returns-clause-exact c =
-    exact2 ◌+ℤ◌ c.args.a c.args.b _ sum-monotone (read-band _ _ c.a.view_is c.a.invariant) (read-band _ _ c.b.view_is c.b.invariant)
+    exact2 ◌+ℤ◌ c.args.a c.args.b _ sum-monotone (read-band _ _ c.a.view_is c.a.invariant)
+    (read-band _ _ c.b.view_is c.b.invariant)
     (returns-clause-hull c)
 
 pub invariant_of-result : goal.invariant_of-result

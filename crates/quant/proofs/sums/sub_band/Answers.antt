@@ -11,12 +11,14 @@ pub returns-clause-hull : goal.returns-clause-hull
 returns-clause-hull c =
     let a = ends_same _ c.args.a c.a.view_is in
     let b = ends_same _ c.args.b c.b.view_is in
-    difference-hull c.args.a c.args.b _ (read-band _ _ c.a.view_is c.a.invariant) (read-band _ _ c.b.view_is c.b.invariant)
+    difference-hull c.args.a c.args.b _ (read-band _ _ c.a.view_is c.a.invariant)
+    (read-band _ _ c.b.view_is c.b.invariant)
     (omega (arith, ints)) (omega (arith, ints))
 
 pub returns-clause-exact : goal.returns-clause-exact
 returns-clause-exact c =
-    exact2 ◌-ℤ◌ c.args.a c.args.b _ difference-monotone (read-band _ _ c.a.view_is c.a.invariant) (read-band _ _ c.b.view_is c.b.invariant)
+    exact2 ◌-ℤ◌ c.args.a c.args.b _ difference-monotone (read-band _ _ c.a.view_is c.a.invariant)
+    (read-band _ _ c.b.view_is c.b.invariant)
     (returns-clause-hull c)
 
 pub invariant_of-result : goal.invariant_of-result

@@ -15,7 +15,8 @@ use Rattle.quant.proofs.Corners.{takes, tray-drawn, least-drawn, greatest-drawn,
 use Rattle.quant.proofs.trays.tray_band.Goals.{After-tray-2}
 use Rattle.quant.proofs.trays.tray_band.Goals as goal
 
-exact : (c : After-tray-2) → IsHull (IsValue5 (tray Floor c.args.holdup c.args.slope) c.args.x c.args.xa c.args.yb c.args.l c.args.v)
+exact : (c : After-tray-2) → IsHull (IsValue5 (tray Floor c.args.holdup c.args.slope) c.args.x c.args.xa c.args.yb
+    c.args.l c.args.v)
     (record { lo = to_z w64 (of_z w64 c.tray.result); hi = to_z w64 (of_z w64 c.tray-2.result) })
 exact c =
     let a = c.args in
@@ -29,16 +30,19 @@ exact c =
     let l = holds-band a.l _ f.ensures.liquid.0 in
     let v = holds-band a.v _ f.ensures.vapour.0 in
     stage-corners Floor a.holdup a.slope a.x a.xa a.yb a.l a.v _ _
-    (read-band _ _ c.x.view_is c.x.invariant) (read-band _ _ c.xa.view_is c.xa.invariant) (read-band _ _ c.yb.view_is c.yb.invariant)
+    (read-band _ _ c.x.view_is c.x.invariant) (read-band _ _ c.xa.view_is c.xa.invariant)
+    (read-band _ _ c.yb.view_is c.yb.invariant)
     (stage-pushes a.holdup a.slope a.l a.v c.requires.slope c.requires.liquid c.requires.vapour c.requires.drainable)
     (least-drawn _ _ _ _ _ a.l a.v _ _ _ (tray-drawn Floor a.holdup a.slope a.x.lo a.xa.lo a.yb.lo) l v
     (takes _ _ _ _ _ _ _ _ _ x.0 xa.0 refl refl f.ensures.least_liquid)
-    (takes _ _ _ _ _ _ _ _ _ (same-product _ _ _ _ x.0 s) (ap (λ (t : ℤ). t *ℤ million) yb.0) refl refl f.ensures.least_vapour)
+    (takes _ _ _ _ _ _ _ _ _ (same-product _ _ _ _ x.0 s)
+    (ap (λ (t : ℤ). t *ℤ million) yb.0) refl refl f.ensures.least_vapour)
     (given7 (tray Floor) _ _ _ _ _ _ _ _ _ _ _ _ _ _ _ (search rules) c.tray.ensures.value h s x.0 xa.0 yb.0
     (to_z-of_z w64 f.result.0.0 (search rules)) (to_z-of_z w64 f.result.0.1 (search rules))))
     (greatest-drawn _ _ _ _ _ a.l a.v _ _ _ (tray-drawn Floor a.holdup a.slope a.x.hi a.xa.hi a.yb.hi) l v
     (takes _ _ _ _ _ _ _ _ _ x.1 xa.1 refl refl g.ensures.most_liquid)
-    (takes _ _ _ _ _ _ _ _ _ (same-product _ _ _ _ x.1 s) (ap (λ (t : ℤ). t *ℤ million) yb.1) refl refl g.ensures.most_vapour)
+    (takes _ _ _ _ _ _ _ _ _ (same-product _ _ _ _ x.1 s)
+    (ap (λ (t : ℤ). t *ℤ million) yb.1) refl refl g.ensures.most_vapour)
     (given7 (tray Floor) _ _ _ _ _ _ _ _ _ _ _ _ _ _ _ (search rules) c.tray-2.ensures.value h s x.1 xa.1 yb.1
     (to_z-of_z w64 g.result.1.0 (search rules)) (to_z-of_z w64 g.result.1.1 (search rules))))
 
@@ -54,7 +58,8 @@ returns-clause-hull c =
     let f = c.drawn_flows.ensures in
     one_hull _ _ (hull5 (tray Floor a.holdup a.slope) a.x a.xa a.yb a.l a.v) (exact c)
     (hull5-exact (tray Floor a.holdup a.slope) a.x a.xa a.yb a.l a.v
-    (read-band _ _ c.x.view_is c.x.invariant) (read-band _ _ c.xa.view_is c.xa.invariant) (read-band _ _ c.yb.view_is c.yb.invariant)
+    (read-band _ _ c.x.view_is c.x.invariant) (read-band _ _ c.xa.view_is c.xa.invariant)
+    (read-band _ _ c.yb.view_is c.yb.invariant)
     (holds-band a.l _ f.liquid.0) (holds-band a.v _ f.vapour.0) (tray-monotone Floor a.holdup a.slope))
 
 pub tray-requires-clause-liquid : goal.tray-requires-clause-liquid
@@ -65,7 +70,8 @@ tray-requires-clause-vapour c = flow-held c.args.v _ c.requires.vapour c.drawn_f
 
 pub tray-requires-clause-drainable : goal.tray-requires-clause-drainable
 tray-requires-clause-drainable c =
-    drainable-held c.args.holdup c.args.slope c.args.l c.args.v _ _ c.requires.drainable c.requires.slope c.drawn_flows.ensures.liquid.0
+    drainable-held c.args.holdup c.args.slope c.args.l c.args.v _ _ c.requires.drainable c.requires.slope
+    c.drawn_flows.ensures.liquid.0
     c.drawn_flows.ensures.vapour.0 c.ranges.holdup c.ranges.slope (search rules) (search rules)
 
 pub tray-requires-2-clause-liquid : goal.tray-requires-2-clause-liquid
@@ -76,7 +82,8 @@ tray-requires-2-clause-vapour c = flow-held c.args.v _ c.requires.vapour c.drawn
 
 pub tray-requires-2-clause-drainable : goal.tray-requires-2-clause-drainable
 tray-requires-2-clause-drainable c =
-    drainable-held c.args.holdup c.args.slope c.args.l c.args.v _ _ c.requires.drainable c.requires.slope c.drawn_flows-2.ensures.liquid.1
+    drainable-held c.args.holdup c.args.slope c.args.l c.args.v _ _ c.requires.drainable c.requires.slope
+    c.drawn_flows-2.ensures.liquid.1
     c.drawn_flows-2.ensures.vapour.1 c.ranges.holdup c.ranges.slope (search rules) (search rules)
 
 pub tray-requires-2-clause-own : goal.tray-requires-2-clause-own

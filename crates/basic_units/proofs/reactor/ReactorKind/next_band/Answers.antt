@@ -18,7 +18,8 @@ use Rattle.basic_units.proofs.Reactors.{from_zero-wide, heated-inside}
 use Rattle.basic_units.proofs.reactor.ReactorKind.next_band.Goals as goal
 
 pub stir_band-stirred-requires-clause-states : goal.stir_band-stirred-requires-clause-states
-stir_band-stirred-requires-clause-states c = are_state_bands c.args.self.now.limits c.args.state.now c.requires.sound.limits c.requires.states
+stir_band-stirred-requires-clause-states c = are_state_bands c.args.self.now.limits c.args.state.now
+    c.requires.sound.limits c.requires.states
 
 pub stir_band-stirred-requires-clause-inputs : goal.stir_band-stirred-requires-clause-inputs
 stir_band-stirred-requires-clause-inputs c = are_input_bands (wide ∷ []) c.args.ins.now c.requires.inputs
@@ -54,13 +55,16 @@ pub blend_band-requires-clause-old : goal.blend_band-requires-clause-old
 blend_band-requires-clause-old c =
     let w = c.stir_band-stirred.ensures.wide in
     heated-inside _ c.share_band.result c.gain_band.result c.add_band-heated.result c.args.self.now.heat
-    c.stir_band-stirred.ensures.band (hull-band _ _ c.share_band.ensures.exact) (hull-band _ _ c.gain_band.ensures.exact) w.1
-    (from_zero-wide _ c.share_band.result w.0 c.share_band.ensures.between) c.requires.sound.heat c.gain_band.ensures.hull c.add_band-heated.ensures.hull
+    c.stir_band-stirred.ensures.band (hull-band _ _ c.share_band.ensures.exact)
+    (hull-band _ _ c.gain_band.ensures.exact) w.1
+    (from_zero-wide _ c.share_band.result w.0 c.share_band.ensures.between) c.requires.sound.heat
+    c.gain_band.ensures.hull c.add_band-heated.ensures.hull
 
 pub blend_band-requires-clause-added : goal.blend_band-requires-clause-added
 blend_band-requires-clause-added c =
     let e = inside-length c.args.ins.now input_limits c.requires.inputs in
-    let h = read-inside c.args.ins.now 4 c.index-ins-4.result _ (omega arith) c.index-ins-4.is (place-inside c.args.ins.now input_limits 4 c.requires.inputs) in
+    let h = read-inside c.args.ins.now 4 c.index-ins-4.result _ (omega arith) c.index-ins-4.is
+    (place-inside c.args.ins.now input_limits 4 c.requires.inputs) in
     record { above = omega (arith, ints); below = omega (arith, ints) }
 
 pub returns : goal.returns
@@ -81,16 +85,24 @@ returns c =
     let reacts : Interval = hull2 (share Floor) conc reacting in
     let hot : Interval = hull2 ◌+ℤ◌ warm (hull1 (gain Floor reactor.heat) reacts) in
     let rate : c.lookup_band-rate.result ≡ reacting =
-    c.lookup_band-rate.ensures.hull ∙ ap (hull1 (lookup Floor reactor.rate)) (read states 3 _ (omega arith) c.index-state-3.is) in
+    c.lookup_band-rate.ensures.hull ∙ ap (hull1 (lookup Floor reactor.rate))
+    (read states 3 _ (omega arith) c.index-state-3.is) in
     let reacted : c.share_band.result ≡ reacts =
-    hulled2 (hull2 (share Floor)) _ c.lookup_band-rate.result _ conc reacting c.share_band.ensures.hull s.ensures.conc rate in
+    hulled2 (hull2 (share Floor)) _ c.lookup_band-rate.result _ conc reacting c.share_band.ensures.hull s.ensures.conc
+    rate in
     let heat : c.gain_band.result ≡ hull1 (gain Floor reactor.heat) reacts =
-    c.gain_band.ensures.hull ∙ (ap (λ (g : ℤ). hull1 (gain Floor g) c.share_band.result) (to_z-of_z w64 reactor.heat (search rules)) ∙ ap (hull1 (gain Floor reactor.heat)) reacted) in
+    c.gain_band.ensures.hull ∙ (ap (λ (g : ℤ). hull1 (gain Floor g) c.share_band.result)
+    (to_z-of_z w64 reactor.heat (search rules)) ∙ ap (hull1 (gain Floor reactor.heat)) reacted) in
     let heated : c.add_band-heated.result ≡ hot =
-    hulled2 (hull2 ◌+ℤ◌) _ c.gain_band.result _ warm (hull1 (gain Floor reactor.heat) reacts) c.add_band-heated.ensures.hull s.ensures.temp heat in
-    c.put_band.ensures ∙ four_same (hull1 (clamp l.volume)) (hull1 (clamp l.flow)) (hull1 (clamp l.conc)) (hull1 (clamp l.temp)) _ _ _ _ _ _ _ _
+    hulled2 (hull2 ◌+ℤ◌) _ c.gain_band.result _ warm
+    (hull1 (gain Floor reactor.heat) reacts) c.add_band-heated.ensures.hull s.ensures.temp heat in
+    c.put_band.ensures ∙ four_same (hull1 (clamp l.volume)) (hull1 (clamp l.flow)) (hull1 (clamp l.conc))
+    (hull1 (clamp l.temp)) _ _ _ _ _ _ _ _
     (s.ensures.volume ∙ ap (λ (k : ℤ). interval Floor states ins (volume_after k)) drains)
     (s.ensures.flow ∙ ap (λ (k : ℤ). interval Floor states ins (outflow k)) drains)
-    (hulled2 (hull2 (keep Floor)) _ c.lookup_band-rate.result _ conc reacting c.keep_band.ensures.hull s.ensures.conc rate)
-    (hulled4 (hull4 (blend Floor)) c.add_band-heated.result c.index-ins-4.result c.point.result c.point-2.result _ hot jacket (point reactor.ua) (point million) c.blend_band.ensures.hull
-    heated (read ins 4 _ (omega arith) c.index-ins-4.is) (c.point.ensures ∙ ap point (to_z-of_z w64 reactor.ua (search rules))) c.point-2.ensures)
+    (hulled2 (hull2 (keep Floor)) _ c.lookup_band-rate.result _ conc reacting c.keep_band.ensures.hull s.ensures.conc
+    rate)
+    (hulled4 (hull4 (blend Floor)) c.add_band-heated.result c.index-ins-4.result c.point.result c.point-2.result _ hot
+    jacket (point reactor.ua) (point million) c.blend_band.ensures.hull
+    heated (read ins 4 _ (omega arith) c.index-ins-4.is)
+    (c.point.ensures ∙ ap point (to_z-of_z w64 reactor.ua (search rules))) c.point-2.ensures)

@@ -15,7 +15,8 @@ use Rattle.basic_units.proofs.Reactors.{shared-wide, heated-around}
 use Rattle.basic_units.proofs.reactor.ReactorKind.next_point.Goals as goal
 
 pub stir_point-stirred-requires-clause-states : goal.stir_point-stirred-requires-clause-states
-stir_point-stirred-requires-clause-states c = are_states c.args.self.now.limits c.args.state.now c.requires.sound.limits c.requires.states
+stir_point-stirred-requires-clause-states c = are_states c.args.self.now.limits c.args.state.now
+    c.requires.sound.limits c.requires.states
 
 pub gain-requires-clause-number : goal.gain-requires-clause-number
 gain-requires-clause-number c =
@@ -31,7 +32,9 @@ bounds-ins-4 c =
 pub blend-requires-clause-old : goal.blend-requires-clause-old
 blend-requires-clause-old c =
     let w = c.stir_point-stirred.ensures.wide in
-    let h = heated-around _ _ _ _ c.add-heated.result w.1 (shared-wide _ c.share.result w.0 c.share.ensures.between) c.requires.sound.heat c.gain.ensures.value c.add-heated.ensures in
+    let h = heated-around _ _ _ _ c.add-heated.result w.1
+    (shared-wide _ c.share.result w.0 c.share.ensures.between) c.requires.sound.heat c.gain.ensures.value
+    c.add-heated.ensures in
     record { above = omega (arith, ints); below = omega (arith, ints) }
 
 pub blend-requires-clause-added : goal.blend-requires-clause-added
@@ -56,16 +59,23 @@ returns c =
     let hot : ℤ = warm +ℤ gain Floor reactor.heat reacts in
     let held : to_z w64 (of_z w64 s.result.conc) ≡ conc = to_z-of_z w64 s.result.conc (search rules) ∙ s.ensures.conc in
     let rate : to_z w64 (of_z w64 c.lookup-rate.result) ≡ reacting =
-    given1 (lookup Floor reactor.rate) _ _ temp (search rules) c.lookup-rate.ensures.value (to_z-of_z w64 temp (search rules)) in
-    let reacted : to_z w64 (of_z w64 c.share.result) ≡ reacts = given2 (share Floor) _ _ _ conc reacting (search rules) c.share.ensures.value held rate in
+    given1 (lookup Floor reactor.rate) _ _ temp (search rules) c.lookup-rate.ensures.value
+    (to_z-of_z w64 temp (search rules)) in
+    let reacted : to_z w64 (of_z w64 c.share.result) ≡ reacts =
+    given2 (share Floor) _ _ _ conc reacting (search rules) c.share.ensures.value held rate in
     let heat : to_z w64 (of_z w64 c.gain.result) ≡ gain Floor reactor.heat reacts =
-    given2 (gain Floor) _ _ _ reactor.heat reacts (search rules) c.gain.ensures.value (to_z-of_z w64 reactor.heat (search rules)) reacted in
+    given2 (gain Floor) _ _ _ reactor.heat reacts (search rules) c.gain.ensures.value
+    (to_z-of_z w64 reactor.heat (search rules)) reacted in
     let heated : to_z w64 (of_z w64 c.add-heated.result) ≡ hot =
-    given2 ◌+ℤ◌ (to_z w64 (of_z w64 s.result.temp)) (to_z w64 (of_z w64 c.gain.result)) _ warm (gain Floor reactor.heat reacts) (search rules) c.add-heated.ensures
+    given2 ◌+ℤ◌ (to_z w64 (of_z w64 s.result.temp)) (to_z w64 (of_z w64 c.gain.result)) _ warm
+    (gain Floor reactor.heat reacts) (search rules) c.add-heated.ensures
     (to_z-of_z w64 s.result.temp (search rules) ∙ s.ensures.temp) heat in
     c.put_point.ensures ∙ four_same (clamp l.volume) (clamp l.flow) (clamp l.conc) (clamp l.temp) _ _ _ _ _ _ _ _
-    (to_z-of_z w64 s.result.volume (search rules) ∙ s.ensures.volume ∙ ap (λ (k : ℤ). value Floor state ins (volume_after k)) drains)
-    (to_z-of_z w64 s.result.flow (search rules) ∙ s.ensures.flow ∙ ap (λ (k : ℤ). value Floor state ins (outflow k)) drains)
+    (to_z-of_z w64 s.result.volume (search rules) ∙ s.ensures.volume ∙
+    ap (λ (k : ℤ). value Floor state ins (volume_after k)) drains)
+    (to_z-of_z w64 s.result.flow (search rules) ∙ s.ensures.flow ∙
+    ap (λ (k : ℤ). value Floor state ins (outflow k)) drains)
     (given2 (keep Floor) _ _ _ conc reacting (search rules) c.keep.ensures.value held rate)
-    (given4 (blend Floor) _ _ _ _ _ hot jacket reactor.ua million (search rules) c.blend.ensures.value heated (to_z-of_z w64 jacket (search rules))
+    (given4 (blend Floor) _ _ _ _ _ hot jacket reactor.ua million (search rules) c.blend.ensures.value heated
+    (to_z-of_z w64 jacket (search rules))
     (to_z-of_z w64 reactor.ua (search rules)) refl)

@@ -11,7 +11,8 @@ use Rattle.basic_units.proofs.Vessels.{are_state_bands, are_input_bands, four_sa
 use Rattle.basic_units.proofs.tank.TankKind.next_band.Goals as goal
 
 pub stir_band-requires-clause-states : goal.stir_band-requires-clause-states
-stir_band-requires-clause-states c = are_state_bands c.args.self.now.limits c.args.state.now c.requires.sound.limits c.requires.states
+stir_band-requires-clause-states c = are_state_bands c.args.self.now.limits c.args.state.now c.requires.sound.limits
+    c.requires.states
 
 pub stir_band-requires-clause-inputs : goal.stir_band-requires-clause-inputs
 stir_band-requires-clause-inputs c = are_input_bands [] c.args.ins.now c.requires.inputs
@@ -23,6 +24,8 @@ returns c =
     let ins = c.args.ins.now in
     let s = c.stir_band.ensures in
     let drains = to_z-of_z w64 c.args.self.now.k (search rules) in
-    c.put_band.ensures ∙ four_same (hull1 (clamp l.volume)) (hull1 (clamp l.flow)) (hull1 (clamp l.conc)) (hull1 (clamp l.temp)) _ _ _ _ _ _ _ _
-    (s.volume ∙ ap (λ (k : ℤ). interval Floor states ins (volume_after k)) drains) (s.flow ∙ ap (λ (k : ℤ). interval Floor states ins (outflow k)) drains)
+    c.put_band.ensures ∙ four_same (hull1 (clamp l.volume)) (hull1 (clamp l.flow)) (hull1 (clamp l.conc))
+    (hull1 (clamp l.temp)) _ _ _ _ _ _ _ _
+    (s.volume ∙ ap (λ (k : ℤ). interval Floor states ins (volume_after k)) drains)
+    (s.flow ∙ ap (λ (k : ℤ). interval Floor states ins (outflow k)) drains)
     s.conc s.temp
