@@ -5,6 +5,7 @@ mod mixer;
 mod reactor;
 mod splitter;
 mod tank;
+mod vessel;
 
 pub use mixer::Mixer;
 pub use reactor::Reactor;
