@@ -2,33 +2,35 @@
 use Rattle.std.proofs.Common.{◌≡◌, ℤ, pos, ◌≤◌, Bool, true, false, arith}
 use Rattle.std.specs.Prelude.{◌&&◌, int_le, nat_abs, if◌then◌else◌}
 use Rattle.std.proofs.lemmas.Int.{ints}
-use Rattle.parts.specs.InRange.{last_piece, IsName, IsPiece, IsFeedBand, IsFeedPart, AreFeeds}
+use Rattle.parts.specs.InRange.{from_to, last_piece, most_pieces, most_feeds, IsName, IsPiece, IsFeedBand, IsFeedPart}
+use Rattle.parts.specs.InRange.{AreFeeds}
 use Rattle.toml.specs.Data.{as_array}
 use Rattle.flow_file.specs.declared.fault.TextFault.TheVariants as fault
 use Rattle.flow_file.specs.Read.{Reading}
-use Rattle.flow_file.specs.Value.{Bytes, or_fault, triple_of, Section, section_of, at_key, no_others, list_of}
+use Rattle.flow_file.specs.Value.{Bytes, or_fault, is_in, triple_of, Section, section_of, at_key, no_others, list_of}
 use Rattle.flow_file.specs.Feeds.{piece_of, pieces_of, constant_of, feed_band_of, begins_with_array}
 use Rattle.flow_file.specs.Feeds.{material_of, signal_of, is_signal_of, feed_of}
 use Rattle.flow_file.proofs.Yields.{Yields, Reads, given, anything, after, tested, required}
-use Rattle.flow_file.proofs.ValueRanges.{between, band, name}
+use Rattle.flow_file.proofs.ValueRanges.{holds, is_between, between, band, name}
 use Rattle.flow_file.proofs.ListRanges.{list}
 
-is_tick : (tick : ℤ) → (int_le (pos 0) tick && int_le tick (pos 1000000000)) ≡ true → nat_abs tick ≤ last_piece
-is_tick tick passed = grind (arith, ints)
+is_tick : (tick : ℤ) → is_in (from_to 0 last_piece) tick ≡ true → nat_abs tick ≤ last_piece
+is_tick tick passed = (is_between 0 last_piece tick (holds (from_to 0 last_piece) tick passed)).1
 
 piece : Reads IsPiece piece_of
 unfolding piece_of
 piece place node =
     after (anything (or_fault (as_array node) (fault.WrongType place))) (λ array _.
     after (anything (or_fault (triple_of array) (fault.WrongType place))) (λ numbers _.
-    after {P = λ tick. tick ≤ last_piece} (tested _ (nat_abs numbers.0) (fault.OutOfRange place) (is_tick numbers.0)) (λ tick tick_is.
+    after {P = λ tick. tick ≤ last_piece}
+    (tested _ (nat_abs numbers.0) (fault.OutOfRange place) (is_tick numbers.0)) (λ tick tick_is.
     after (between place numbers.1.0 numbers.1.1) (λ band band_is.
     given (tick_is, band_is)))))
 
 -- the band of a feed's channel
 pieces : Reads IsFeedBand pieces_of
 unfolding pieces_of
-pieces place node = after (list piece 1 1000 place node) (λ pieces pieces_are. given pieces_are)
+pieces place node = after (list piece 1 most_pieces place node) (λ pieces pieces_are. given pieces_are)
 
 constant : Reads IsFeedBand constant_of
 constant place node = after (band place node) (λ band band_is. given band_is)
@@ -68,5 +70,8 @@ feed place node =
     either is_signal (signal section name name_is) (material section name name_is))))
 
 -- the feeds
-pub feeds : Reads AreFeeds (list_of feed_of 0 256)
-feeds place node = record { value = λ feeds e. let all = (list feed 0 256 place node).value feeds e in (all.1, all.2) }
+pub feeds : Reads AreFeeds (list_of feed_of 0 most_feeds)
+feeds place node = record {
+  value = λ feeds e. let all = (list feed 0 most_feeds place node).value feeds e in
+      (all.1, all.2);
+}

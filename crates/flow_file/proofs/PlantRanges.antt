@@ -1,9 +1,10 @@
 -- The ranges of what a whole plant text says.
-use Rattle.std.proofs.Common.{◌≡◌, ℕ, pos, List, Ok, arith}
+use Rattle.std.proofs.Common.{◌≡◌, ℕ, List, Ok, arith}
 use Rattle.std.specs.Prelude.{[]}
 use Rattle.quant.specs.Interval.{Holds}
 use Rattle.parts.specs.Parts.{FileParts}
-use Rattle.parts.specs.InRange.{widths, AreWidths, AreWideLimits, AreOwnLimits, IsUnitPart, AreFeeds, AreInRange}
+use Rattle.parts.specs.InRange.{most_ticks, longest_window, most_units, widths, AreWidths, AreWideLimits, AreOwnLimits}
+use Rattle.parts.specs.InRange.{IsUnitPart, AreFeeds, AreInRange}
 use Rattle.toml.specs.Data.{Members}
 use Rattle.flow_file.specs.declared.plant.Frame.{Frame}
 use Rattle.flow_file.specs.declared.units.UnitKind.{UnitKind}
@@ -51,12 +52,12 @@ unit place node =
     given (record { name = name_is; kind = part_is; limits = limits_are }))))))
 
 -- what stands before the feeds and the units
-run : Reads (λ run. IsBetween 1 100000 run.0 × IsBetween 1 64 run.1) run_of
+run : Reads (λ run. IsBetween 1 most_ticks run.0 × IsBetween 1 longest_window run.1) run_of
 unfolding run_of
 run place node =
     after (anything (section_of place node)) (λ section _.
-    after (required (count 1 100000) section _) (λ ticks ticks_are.
-    after (required (count 1 64) section _) (λ window window_is.
+    after (required (count 1 most_ticks) section _) (λ ticks ticks_are.
+    after (required (count 1 longest_window) section _) (λ window window_is.
     after (anything (no_others _ section)) (λ _ _.
     given (ticks_are, window_is)))))
 
@@ -73,7 +74,7 @@ limits place node =
     given (record { flow = flow_is; conc = conc_is; temp = temp_is; volume = volume_is; signal = signal_is }))))))))
 
 width : Reads (Holds widths) width_in
-width = number (pos 0) (pos 2000000000000)
+width = number widths
 
 asked_widths : Reads AreWidths widths_of
 unfolding widths_of
@@ -96,8 +97,8 @@ all_widths top =
     given (or_else AreWidths found no_widths found_are no_widths_are))
 
 record IsFrame (frame : Frame) : Type 0 where
-  pub ticks : IsBetween 1 100000 frame.ticks
-  pub window : IsBetween 1 64 frame.window
+  pub ticks : IsBetween 1 most_ticks frame.ticks
+  pub window : IsBetween 1 longest_window frame.window
   pub limits : AreWideLimits frame.limits
   pub width : AreWidths frame.width
 
@@ -123,7 +124,7 @@ parts table =
     let top : Section = record { prefix = []; members = table } in
     after (frame top) (λ frame frame_is.
     after (all_feeds top) (λ feeds feeds_are.
-    after (required (list unit 1 256) top _) (λ units units_are.
+    after (required (list unit 1 most_units) top _) (λ units units_are.
     after (anything (no_others _ top)) (λ _ _.
     given (record {
       ticks = frame_is.ticks;

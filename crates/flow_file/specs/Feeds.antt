@@ -1,23 +1,24 @@
 -- The feeds of a plant text.
-use Rattle.std.specs.Prelude.{◌&&◌, pos, nat_abs, int_le, Bool, true, false, if◌then◌else◌}
+use Rattle.std.specs.Prelude.{nat_abs, Bool, true, false, if◌then◌else◌}
 use Rattle.std.specs.Prelude.{[], ◌∷◌, bytes_eq, codes, Option, Some, None, is_some, Ok}
 use Rattle.parts.specs.declared.feeds.Piece.{Piece}
 use Rattle.parts.specs.declared.feeds.FeedBand.{FeedBand}
 use Rattle.parts.specs.declared.feeds.FeedBand.TheVariants as feed_band
 use Rattle.parts.specs.declared.feeds.FeedKind.TheVariants as feed_kind
 use Rattle.parts.specs.declared.feeds.FeedPart.{FeedPart}
+use Rattle.parts.specs.InRange.{from_to, last_piece, most_pieces}
 use Rattle.toml.specs.Data.{Data, Items, item, as_array}
 use Rattle.flow_file.specs.declared.fault.TextFault.TheVariants as fault
 use Rattle.flow_file.specs.Read.{Reading, ◌>>=◌}
 use Rattle.flow_file.specs.Value.{Bytes, or_fault, when, Section, section_of}
-use Rattle.flow_file.specs.Value.{at_key, no_others, triple_of, band_between, band_of, text_of, name_of, list_of}
+use Rattle.flow_file.specs.Value.{at_key, no_others, is_in, triple_of, band_between, band_of, text_of, name_of, list_of}
 
 -- a piece: its tick, and the ends of its band
 unfoldable pub piece_of : Bytes → Data → Reading Piece
 piece_of place node = do
   array ← or_fault (as_array node) (fault.WrongType place)
   numbers ← or_fault (triple_of array) (fault.WrongType place)
-  tick ← when (int_le (pos 0) numbers.0 && int_le numbers.0 (pos 1000000000)) (nat_abs numbers.0) (fault.OutOfRange place)
+  tick ← when (is_in (from_to 0 last_piece) numbers.0) (nat_abs numbers.0) (fault.OutOfRange place)
   band ← band_between place numbers.1.0 numbers.1.1
   Ok (record { tick = tick; band = band })
 
@@ -31,7 +32,7 @@ begins_with_array _ = false
 
 unfoldable pub pieces_of : Bytes → Data → Reading FeedBand
 pieces_of place node = do
-  pieces ← list_of piece_of 1 1000 place node
+  pieces ← list_of piece_of 1 most_pieces place node
   Ok (feed_band.Pieces pieces)
 
 abbrev pub constant_of : Bytes → Data → Reading FeedBand

@@ -1,3 +1,4 @@
+-- Words of the proofs: a reader of the contracts needs none of them.
 -- Where a value stands, as the code carries it: the place is written only where a refusal names it.
 use Rattle.std.specs.Prelude.{◌++◌, List, map, string_bytes}
 use Rattle.std.specs.Borrow.{Bor}

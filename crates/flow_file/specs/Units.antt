@@ -1,8 +1,8 @@
 -- The units of a plant text.
-use Rattle.std.specs.Prelude.{◌&&◌, ℤ, pos, neg_ℤ, int_le, Bool, if◌then◌else◌}
+use Rattle.std.specs.Prelude.{◌&&◌, ℤ, Bool, if◌then◌else◌}
 use Rattle.std.specs.Prelude.{List, [], ◌∷◌, bytes_eq, codes, Option, Some, None, Ok, unwrap_or}
 use Rattle.quant.specs.Interval.{Interval, wide}
-use Rattle.quant.specs.Operation.{million}
+use Rattle.parts.specs.InRange.{ppm, gains, holdups, slopes, most_rate_points, most_stages, fewest_inputs, most_inputs}
 use Rattle.parts.specs.declared.units.KindPart.{KindPart}
 use Rattle.parts.specs.declared.units.KindPart.TheVariants as part
 use Rattle.parts.specs.declared.units.OwnLimits.{OwnLimits}
@@ -15,19 +15,18 @@ use Rattle.flow_file.specs.declared.kinds.Contents.{Contents}
 use Rattle.flow_file.specs.declared.kinds.Opening.{Opening}
 use Rattle.flow_file.specs.Read.{Reading, ◌>>=◌}
 use Rattle.flow_file.specs.Value.{Bytes, or_fault, when, Section, section_of, at_key, at_optional, no_others}
-use Rattle.flow_file.specs.Value.{number_in, count_in, band_of, pair_of, text_of, name_of, reference_of, list_of}
+use Rattle.flow_file.specs.Value.{is_in, number_in, count_in, band_of, pair_of, text_of, name_of, reference_of, list_of}
 
--- the numbers from 0 to one million, and those that a gain may be
+-- a part of a whole, and a gain
 abbrev pub ppm_in : Bytes → Data → Reading ℤ
-ppm_in = number_in (pos 0) million
+ppm_in = number_in ppm
 
 abbrev pub gain_in : Bytes → Data → Reading ℤ
-gain_in = number_in (neg_ℤ (pos 1000000000)) (pos 1000000000)
+gain_in = number_in gains
 
 -- a point of a rate table: a temperature, and a rate
 abbrev pub is_rate_point : ℤ × ℤ → Bool
-is_rate_point point =
-    (int_le wide.lo point.0 && int_le point.0 wide.hi) && (int_le (pos 0) point.1 && int_le point.1 million)
+is_rate_point point = is_in wide point.0 && is_in ppm point.1
 
 unfoldable pub rate_point_of : Bytes → Data → Reading (ℤ × ℤ)
 rate_point_of place node = do
@@ -58,7 +57,7 @@ reactor_of section = do
   valve ← at_key reference_of section (codes "valve")
   jacket ← at_key reference_of section (codes "jacket")
   k ← at_key ppm_in section (codes "k")
-  rate ← at_key (list_of rate_point_of 1 64) section (codes "rate")
+  rate ← at_key (list_of rate_point_of 1 most_rate_points) section (codes "rate")
   heat ← at_key gain_in section (codes "heat")
   ua ← at_key ppm_in section (codes "ua")
   held ← contents_of section
@@ -83,11 +82,12 @@ unfoldable pub column_of : Section → Reading KindPart
 column_of section = do
   liquid ← at_key reference_of section (codes "liquid")
   vapour ← at_key reference_of section (codes "vapour")
-  stages ← at_key (count_in 1 64) section (codes "stages")
-  holdup ← at_key (number_in (pos 1) (pos 1000000000000)) section (codes "holdup")
-  slope ← at_key (number_in (pos 0) (pos 1000000000)) section (codes "slope")
+  stages ← at_key (count_in 1 most_stages) section (codes "stages")
+  holdup ← at_key (number_in holdups) section (codes "holdup")
+  slope ← at_key (number_in slopes) section (codes "slope")
   held ← opening_of section
-  Ok (part.Column liquid vapour stages holdup slope held.x held.liquid_flow held.liquid_temp held.vapour_flow held.vapour_temp)
+  Ok (part.Column
+      liquid vapour stages holdup slope held.x held.liquid_flow held.liquid_temp held.vapour_flow held.vapour_temp)
 
 unfoldable pub controller_of : Section → Reading KindPart
 controller_of section = do
@@ -95,7 +95,7 @@ controller_of section = do
   measured ← at_key reference_of section (codes "measured")
   kp ← at_key gain_in section (codes "kp")
   ki ← at_key gain_in section (codes "ki")
-  bias ← at_key (number_in wide.lo wide.hi) section (codes "bias")
+  bias ← at_key (number_in wide) section (codes "bias")
   integral_limits ← at_key band_of section (codes "integral_limits")
   integral ← at_key band_of section (codes "integral")
   out ← at_key band_of section (codes "out")
@@ -103,7 +103,7 @@ controller_of section = do
 
 unfoldable pub mixer_of : Section → Reading KindPart
 mixer_of section = do
-  input ← at_key (list_of reference_of 2 8) section (codes "in")
+  input ← at_key (list_of reference_of fewest_inputs most_inputs) section (codes "in")
   Ok (part.Mixer input)
 
 unfoldable pub splitter_of : Section → Reading KindPart
@@ -130,7 +130,8 @@ unit_kind_of place node = do
 
 -- the keys of each kind
 unfoldable pub keys_of : UnitKind → List Bytes
-keys_of kind.Tank = codes "in" ∷ codes "valve" ∷ codes "k" ∷ codes "volume" ∷ codes "flow" ∷ codes "conc" ∷ codes "temp" ∷ []
+keys_of kind.Tank =
+    codes "in" ∷ codes "valve" ∷ codes "k" ∷ codes "volume" ∷ codes "flow" ∷ codes "conc" ∷ codes "temp" ∷ []
 keys_of kind.Reactor =
     codes "in" ∷ codes "valve" ∷ codes "jacket" ∷ codes "k" ∷ codes "rate" ∷ codes "heat" ∷ codes "ua"
     ∷ codes "volume" ∷ codes "flow" ∷ codes "conc" ∷ codes "temp" ∷ []

@@ -1,28 +1,30 @@
 //! Readers of the feeds of a plant text.
 
 ghost use Rattle.std.specs.Prelude.{◌≡◌, IfOk};
-ghost use Rattle.parts.specs.InRange.{IsName, IsPiece, ArePieces, IsFeedBand, IsFeedPart};
+ghost use Rattle.parts.specs.InRange.{IsName, IsPiece, IsFeedBand, IsFeedPart};
 ghost use Rattle.toml.specs.Data.{as_array};
 ghost use Rattle.toml.specs.View.{view};
 ghost use Rattle.flow_file.specs.Read.{Gives};
-ghost use Rattle.flow_file.specs.Value.{list_of};
 ghost use Rattle.flow_file.specs.Feeds.{piece_of, begins_with_array, feed_band_of};
 ghost use Rattle.flow_file.specs.Feeds.{material_of, signal_of, signal_named, is_signal_of, feed_of};
 ghost use Rattle.flow_file.specs.Spots.{seen};
 
-use crate::arrays::list_at;
+use crate::arrays::ListOf;
 use crate::fault::Unread;
 use crate::reader::Reader;
 use crate::section::{Section, section_at};
 use crate::spot::Spot;
-use crate::values::{Name, WideBand, band_between, text_at, triple_of};
-use parts::{FeedBand, FeedKind, FeedPart, Piece, Pieces};
+use crate::values::{Name, NumberIn, WideBand, band_between, text_at, triple_of};
+use parts::{FeedBand, FeedKind, FeedPart, Piece};
 use plant_names::Text;
 use std::alloc::Global;
 use toml::Value;
 
-/// The greatest tick of a piece.
-const LAST_PIECE: i64 = 1_000_000_000;
+/// The tick at which a piece begins.
+const BEGIN: NumberIn = NumberIn {
+    lo: 0,
+    hi: 1_000_000_000,
+};
 
 /// A piece: its tick, and the ends of its band.
 #[derive(Clone, Copy)]
@@ -40,7 +42,7 @@ impl Reader for PieceReader {
         let Some((tick, (lo, hi))) = triple_of(node) else {
             return Err(spot.wrong_type(alloc)?);
         };
-        if tick < 0 || LAST_PIECE < tick {
+        if !BEGIN.holds(tick) {
             return Err(spot.out_of_range(alloc)?);
         }
         let band = band_between(alloc, spot, lo, hi)?;
@@ -52,21 +54,11 @@ impl Reader for PieceReader {
 }
 
 /// The pieces of a band.
-#[derive(Clone, Copy)]
-struct PiecesReader;
-
-impl Reader for PiecesReader {
-    type Item = Pieces;
-
-    ghost reads = { λ _. list_of piece_of 1 1000 };
-
-    ghost may_be = { λ _. ArePieces };
-
-    fn read(self, alloc: Global, spot: Spot, node: &Value) -> Result<Pieces, Unread> {
-        let pieces = list_at(alloc, spot, node, PieceReader, 1, 1000)?;
-        Ok(Pieces::new(pieces))
-    }
-}
+const PIECES: ListOf<PieceReader> = ListOf {
+    each: PieceReader,
+    least: 1,
+    most: 1000,
+};
 
 /// Whether a value is an array whose first value is an array.
 fn begins_with_array(node: &Value) -> bool
@@ -95,7 +87,7 @@ impl Reader for FeedBandReader {
     #[tactic(auto, unfolding(crate::specs::Feeds::feed_band_of, crate::specs::Feeds::pieces_of))]
     fn read(self, alloc: Global, spot: Spot, node: &Value) -> Result<FeedBand, Unread> {
         if begins_with_array(node) {
-            let pieces = PiecesReader.read(alloc, spot, node)?;
+            let pieces = PIECES.read(alloc, spot, node)?;
             Ok(FeedBand::Pieces { pieces })
         } else {
             let band = WideBand.read(alloc, spot, node)?;

@@ -1,21 +1,20 @@
 //! Readers of what a unit of each kind says.
 
 ghost use Rattle.std.specs.Prelude.{IfOk};
-ghost use Rattle.parts.specs.InRange.{IsWide, IsRatePoint, AreRatePoints, AreInputs, IsKindPart};
+ghost use Rattle.parts.specs.InRange.{IsWide, IsRatePoint, IsKindPart};
 ghost use Rattle.parts.specs.InRange.{AreContents, AreColumnBands};
 ghost use Rattle.flow_file.specs.Read.{Gives};
-ghost use Rattle.flow_file.specs.Value.{list_of, reference_of};
 ghost use Rattle.flow_file.specs.Units.{rate_point_of, contents_of, flow_and_temp_of, opening_of};
 ghost use Rattle.flow_file.specs.Units.{tank_of, reactor_of, column_of, controller_of, mixer_of, splitter_of};
 ghost use Rattle.flow_file.specs.Spots.{seen};
 
-use crate::arrays::list_at;
+use crate::arrays::ListOf;
 use crate::fault::Unread;
 use crate::reader::Reader;
 use crate::section::Section;
 use crate::spot::Spot;
 use crate::values::{CountIn, NumberIn, Reference, WIDEST, WideBand, pair_of};
-use parts::{KindPart, RatePoints, Texts};
+use parts::KindPart;
 use quant::{Band, MILLION};
 use std::alloc::Global;
 use toml::Value;
@@ -28,6 +27,24 @@ const GAIN: NumberIn = NumberIn {
     lo: -1_000_000_000,
     hi: 1_000_000_000,
 };
+
+/// What a stage of a column holds, in mL.
+const HOLDUP: NumberIn = NumberIn { lo: 1, hi: WIDEST };
+
+/// How a column's vapour stands to its liquid, in ppm.
+const SLOPE: NumberIn = NumberIn {
+    lo: 0,
+    hi: 1_000_000_000,
+};
+
+/// A wide number.
+const WIDE: NumberIn = NumberIn {
+    lo: -WIDEST,
+    hi: WIDEST,
+};
+
+/// The stages of a column.
+const STAGES: CountIn = CountIn { least: 1, most: 64 };
 
 /// What a tank or a reactor holds at the first tick.
 #[derive(Clone, Copy)]
@@ -64,7 +81,7 @@ impl Reader for RatePointReader {
         let Some((temp, ppm)) = pair_of(node) else {
             return Err(spot.wrong_type(alloc)?);
         };
-        if temp < -WIDEST || WIDEST < temp || ppm < 0 || MILLION < ppm {
+        if !WIDE.holds(temp) || !PPM.holds(ppm) {
             return Err(spot.out_of_range(alloc)?);
         }
         Ok((temp, ppm))
@@ -72,38 +89,18 @@ impl Reader for RatePointReader {
 }
 
 /// The points of a rate table.
-#[derive(Clone, Copy)]
-struct RatePointsReader;
-
-impl Reader for RatePointsReader {
-    type Item = RatePoints;
-
-    ghost reads = { λ _. list_of rate_point_of 1 64 };
-
-    ghost may_be = { λ _. AreRatePoints };
-
-    fn read(self, alloc: Global, spot: Spot, node: &Value) -> Result<RatePoints, Unread> {
-        let points = list_at(alloc, spot, node, RatePointReader, 1, 64)?;
-        Ok(RatePoints::new(points))
-    }
-}
+const RATE_POINTS: ListOf<RatePointReader> = ListOf {
+    each: RatePointReader,
+    least: 1,
+    most: 64,
+};
 
 /// What a mixer reads.
-#[derive(Clone, Copy)]
-struct InputsReader;
-
-impl Reader for InputsReader {
-    type Item = Texts;
-
-    ghost reads = { λ _. list_of reference_of 2 8 };
-
-    ghost may_be = { λ _. AreInputs };
-
-    fn read(self, alloc: Global, spot: Spot, node: &Value) -> Result<Texts, Unread> {
-        let inputs = list_at(alloc, spot, node, Reference, 2, 8)?;
-        Ok(Texts::new(inputs))
-    }
-}
+const INPUTS: ListOf<Reference> = ListOf {
+    each: Reference,
+    least: 2,
+    most: 8,
+};
 
 /// What a tank or a reactor holds at the first tick.
 #[tactic(auto, unfolding(crate::specs::Units::contents_of))]
@@ -152,7 +149,7 @@ pub(crate) fn reactor_of(alloc: Global, section: &Section) -> Result<KindPart, U
     let valve = section.read(alloc, "valve", Reference)?;
     let jacket = section.read(alloc, "jacket", Reference)?;
     let k = section.read(alloc, "k", PPM)?;
-    let rate = section.read(alloc, "rate", RatePointsReader)?;
+    let rate = section.read(alloc, "rate", RATE_POINTS)?;
     let heat = section.read(alloc, "heat", GAIN)?;
     let ua = section.read(alloc, "ua", PPM)?;
     let held = contents_of(alloc, section)?;
@@ -223,9 +220,9 @@ pub(crate) fn column_of(alloc: Global, section: &Section) -> Result<KindPart, Un
 {
     let liquid = section.read(alloc, "liquid", Reference)?;
     let vapour = section.read(alloc, "vapour", Reference)?;
-    let stages = section.read(alloc, "stages", CountIn { least: 1, most: 64 })?;
-    let holdup = section.read(alloc, "holdup", NumberIn { lo: 1, hi: WIDEST })?;
-    let slope = section.read(alloc, "slope", NumberIn { lo: 0, hi: GAIN.hi })?;
+    let stages = section.read(alloc, "stages", STAGES)?;
+    let holdup = section.read(alloc, "holdup", HOLDUP)?;
+    let slope = section.read(alloc, "slope", SLOPE)?;
     let held = opening_of(alloc, section)?;
     Ok(KindPart::Column {
         liquid,
@@ -250,14 +247,7 @@ pub(crate) fn controller_of(alloc: Global, section: &Section) -> Result<KindPart
     let measured = section.read(alloc, "measured", Reference)?;
     let kp = section.read(alloc, "kp", GAIN)?;
     let ki = section.read(alloc, "ki", GAIN)?;
-    let bias = section.read(
-        alloc,
-        "bias",
-        NumberIn {
-            lo: -WIDEST,
-            hi: WIDEST,
-        },
-    )?;
+    let bias = section.read(alloc, "bias", WIDE)?;
     let integral_limits = section.read(alloc, "integral_limits", WideBand)?;
     let integral = section.read(alloc, "integral", WideBand)?;
     let out = section.read(alloc, "out", WideBand)?;
@@ -278,7 +268,7 @@ pub(crate) fn mixer_of(alloc: Global, section: &Section) -> Result<KindPart, Unr
     ensures exact { Gives result (mixer_of (seen section.now)) }
     ensures inside { IfOk result IsKindPart }
 {
-    let input = section.read(alloc, "in", InputsReader)?;
+    let input = section.read(alloc, "in", INPUTS)?;
     Ok(KindPart::Mixer { input })
 }
 

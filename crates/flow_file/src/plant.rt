@@ -1,17 +1,15 @@
 //! The reading of a whole plant text.
 
 ghost use Rattle.std.specs.Prelude.{◌≤◌, IfOk};
-ghost use Rattle.parts.specs.InRange.{AreWideLimits, AreWidths, AreFeeds, AreUnits};
+ghost use Rattle.parts.specs.InRange.{most_ticks, longest_window, AreWideLimits, AreWidths, AreFeeds};
 ghost use Rattle.toml.specs.View.{table_view};
 ghost use Rattle.flow_file.specs.Read.{Gives, GivesBy};
-ghost use Rattle.flow_file.specs.Value.{list_of, tree_of};
-ghost use Rattle.flow_file.specs.Feeds.{feed_of};
-ghost use Rattle.flow_file.specs.Units.{unit_of};
+ghost use Rattle.flow_file.specs.Value.{tree_of};
 ghost use Rattle.flow_file.specs.Spots.{seen};
 ghost use Rattle.flow_file.specs.Plant.{format_of, run_of, limits_of, widths_of};
 ghost use Rattle.flow_file.specs.Plant.{widths_at, feeds_at, frame_of, parts_of, parts_in};
 
-use crate::arrays::list_at;
+use crate::arrays::ListOf;
 use crate::fault::{TextFault, Unread};
 use crate::feeds::FeedReader;
 use crate::reader::Reader;
@@ -19,13 +17,22 @@ use crate::section::{Section, section_at};
 use crate::spot::Spot;
 use crate::units::UnitReader;
 use crate::values::{CountIn, NumberIn, WideBand};
-use parts::{FeedParts, Parts, UnitParts, Widths};
+use parts::{FeedParts, Parts, Widths};
 use quant::Limits;
 use std::alloc::Global;
 use toml::{Table, Value};
 
 /// The most feeds, and the most units.
 const MOST: usize = 256;
+
+/// The ticks of a run.
+const TICKS: CountIn = CountIn {
+    least: 1,
+    most: 100_000,
+};
+
+/// The ticks of a window.
+const WINDOW: CountIn = CountIn { least: 1, most: 64 };
 
 /// A width that may be asked for.
 const WIDTH: NumberIn = NumberIn {
@@ -94,20 +101,13 @@ impl Reader for RunReader {
 
     ghost reads = { λ _. run_of };
 
-    ghost may_be = { λ _ run. (1 ≤ run.0) × (run.0 ≤ 100000) × (1 ≤ run.1) × (run.1 ≤ 64) };
+    ghost may_be = { λ _ run. (1 ≤ run.0) × (run.0 ≤ most_ticks) × (1 ≤ run.1) × (run.1 ≤ longest_window) };
 
     #[tactic(auto, unfolding(crate::specs::Plant::run_of))]
     fn read(self, alloc: Global, spot: Spot, node: &Value) -> Result<(u32, u32), Unread> {
         let section = section_at(alloc, spot, node)?;
-        let ticks = section.read(
-            alloc,
-            "ticks",
-            CountIn {
-                least: 1,
-                most: 100_000,
-            },
-        )?;
-        let window = section.read(alloc, "window", CountIn { least: 1, most: 64 })?;
+        let ticks = section.read(alloc, "ticks", TICKS)?;
+        let window = section.read(alloc, "window", WINDOW)?;
         section.no_others(alloc, &["ticks", "window"])?;
         Ok((ticks, window))
     }
@@ -172,38 +172,18 @@ impl Reader for WidthsReader {
 }
 
 /// The feeds.
-#[derive(Clone, Copy)]
-struct FeedsReader;
-
-impl Reader for FeedsReader {
-    type Item = FeedParts;
-
-    ghost reads = { λ _. list_of feed_of 0 256 };
-
-    ghost may_be = { λ _. AreFeeds };
-
-    fn read(self, alloc: Global, spot: Spot, node: &Value) -> Result<FeedParts, Unread> {
-        let feeds = list_at(alloc, spot, node, FeedReader, 0, MOST)?;
-        Ok(FeedParts::new(feeds))
-    }
-}
+const FEEDS: ListOf<FeedReader> = ListOf {
+    each: FeedReader,
+    least: 0,
+    most: MOST,
+};
 
 /// The units.
-#[derive(Clone, Copy)]
-struct UnitsReader;
-
-impl Reader for UnitsReader {
-    type Item = UnitParts;
-
-    ghost reads = { λ _. list_of unit_of 1 256 };
-
-    ghost may_be = { λ _. AreUnits };
-
-    fn read(self, alloc: Global, spot: Spot, node: &Value) -> Result<UnitParts, Unread> {
-        let units = list_at(alloc, spot, node, UnitReader, 1, MOST)?;
-        Ok(UnitParts::new(units))
-    }
-}
+const UNITS: ListOf<UnitReader> = ListOf {
+    each: UnitReader,
+    least: 1,
+    most: MOST,
+};
 
 /// The widths that the text asks for, or none.
 #[tactic(auto, unfolding(crate::specs::Plant::widths_at))]
@@ -221,7 +201,7 @@ fn feeds_at(alloc: Global, top: &Section) -> Result<FeedParts, Unread>
     ensures exact { Gives result (feeds_at (seen top.now)) }
     ensures inside { IfOk result AreFeeds }
 {
-    let found = top.read_optional(alloc, "feed", FeedsReader)?;
+    let found = top.read_optional(alloc, "feed", FEEDS)?;
     match found {
         Some(feeds) => Ok(feeds),
         None => Ok(FeedParts::new(Vec::new(alloc))),
@@ -232,8 +212,8 @@ fn feeds_at(alloc: Global, top: &Section) -> Result<FeedParts, Unread>
 #[tactic(auto, unfolding(crate::specs::Plant::frame_of))]
 fn frame_of(alloc: Global, top: &Section) -> Result<Frame, Unread>
     ensures exact { Gives result (frame_of (seen top.now)) }
-    ensures ticks { IfOk result (λ frame. (1 ≤ frame.ticks) × (frame.ticks ≤ 100000)) }
-    ensures window { IfOk result (λ frame. (1 ≤ frame.window) × (frame.window ≤ 64)) }
+    ensures ticks { IfOk result (λ frame. (1 ≤ frame.ticks) × (frame.ticks ≤ most_ticks)) }
+    ensures window { IfOk result (λ frame. (1 ≤ frame.window) × (frame.window ≤ longest_window)) }
     ensures limits { IfOk result (λ frame. AreWideLimits frame.limits) }
     ensures width { IfOk result (λ frame. AreWidths frame.width) }
 {
@@ -260,7 +240,7 @@ fn parts_of(alloc: Global, table: &Table) -> Result<Parts, Unread>
     };
     let frame = frame_of(alloc, &top)?;
     let feeds = feeds_at(alloc, &top)?;
-    let units = top.read(alloc, "unit", UnitsReader)?;
+    let units = top.read(alloc, "unit", UNITS)?;
     top.no_others(alloc, &["format", "run", "limits", "width", "feed", "unit"])?;
     Ok(Parts {
         ticks: frame.ticks,

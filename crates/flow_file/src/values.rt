@@ -6,7 +6,7 @@ ghost use Rattle.parts.specs.InRange.{IsWide, IsName, IsReference};
 ghost use Rattle.toml.specs.Data.{as_array};
 ghost use Rattle.toml.specs.View.{view};
 ghost use Rattle.flow_file.specs.Read.{Gives, GivesBy};
-ghost use Rattle.flow_file.specs.Value.{number_in, count_in, band_between, pair_of, triple_of, pair_band, band_of};
+ghost use Rattle.flow_file.specs.Value.{is_in, number_in, count_in, band_between, pair_of, triple_of, pair_band, band_of};
 ghost use Rattle.flow_file.specs.Value.{text_of, name_of, reference_of};
 ghost use Rattle.flow_file.specs.Spots.{place_of};
 
@@ -28,10 +28,19 @@ pub(crate) struct NumberIn {
     pub hi: i64,
 }
 
+impl NumberIn {
+    /// Whether a number lies in the range.
+    pub fn holds(self, number: i64) -> bool
+        ensures { result ≡ is_in (record { lo = self.lo; hi = self.hi }) number }
+    {
+        self.lo <= number && number <= self.hi
+    }
+}
+
 impl Reader for NumberIn {
     type Item = i64;
 
-    ghost reads = { λ range. number_in range.lo range.hi };
+    ghost reads = { λ range. number_in (record { lo = range.lo; hi = range.hi }) };
 
     ghost may_be = { λ range. Holds (record { lo = range.lo; hi = range.hi }) };
 
@@ -40,7 +49,7 @@ impl Reader for NumberIn {
         let Some(number) = node.as_integer() else {
             return Err(spot.wrong_type(alloc)?);
         };
-        if number < self.lo || self.hi < number {
+        if !self.holds(number) {
             return Err(spot.out_of_range(alloc)?);
         }
         Ok(number)
