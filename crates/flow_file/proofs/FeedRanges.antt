@@ -7,10 +7,10 @@ use Rattle.parts.specs.InRange.{AreFeeds}
 use Rattle.toml.specs.Data.{as_array}
 use Rattle.flow_file.specs.declared.fault.TextFault.TheVariants as fault
 use Rattle.flow_file.specs.Read.{Reading}
-use Rattle.flow_file.specs.Value.{Bytes, or_fault, is_in, triple_of, Section, section_of, at_key, no_others, list_of}
+use Rattle.flow_file.specs.Value.{Bytes, or_fault, is_in, triple_of, Section, table_of, at_key, no_others, list_of}
 use Rattle.flow_file.specs.Feeds.{piece_of, pieces_of, constant_of, feed_band_of, begins_with_array}
 use Rattle.flow_file.specs.Feeds.{material_of, signal_of, is_signal_of, feed_of}
-use Rattle.flow_file.proofs.Yields.{Yields, Reads, given, anything, after, tested, required}
+use Rattle.flow_file.proofs.Yields.{Yields, Reads, given, anything, after, tested, table, required}
 use Rattle.flow_file.proofs.ValueRanges.{holds, is_between, between, band, name}
 use Rattle.flow_file.proofs.ListRanges.{list}
 
@@ -61,17 +61,15 @@ signal section text name_is =
     after (anything (no_others _ section)) (λ _ _.
     given (record { name = name_is; kind = value_is })))
 
-feed : Reads IsFeedPart feed_of
+feed : (section : Section) → Yields IsFeedPart (feed_of section)
 unfolding feed_of
-feed place node =
-    after (anything (section_of place node)) (λ section _.
+feed section =
     after (required name section _) (λ name name_is.
     after (anything (at_key is_signal_of section _)) (λ is_signal _.
-    either is_signal (signal section name name_is) (material section name name_is))))
+    either is_signal (signal section name name_is) (material section name name_is)))
 
 -- the feeds
-pub feeds : Reads AreFeeds (list_of feed_of 0 most_feeds)
+pub feeds : Reads AreFeeds (list_of (table_of feed_of) 0 most_feeds)
 feeds place node = record {
-  value = λ feeds e. let all = (list feed 0 most_feeds place node).value feeds e in
-      (all.1, all.2);
+  value = λ feeds e. let all = (list (table feed) 0 most_feeds place node).value feeds e in (all.1, all.2);
 }

@@ -10,7 +10,7 @@ use Rattle.parts.specs.InRange.{from_to, last_piece, most_pieces}
 use Rattle.toml.specs.Data.{Data, Items, item, as_array}
 use Rattle.flow_file.specs.declared.fault.TextFault.TheVariants as fault
 use Rattle.flow_file.specs.Read.{Reading, ◌>>=◌}
-use Rattle.flow_file.specs.Value.{Bytes, or_fault, when, Section, section_of}
+use Rattle.flow_file.specs.Value.{Bytes, or_fault, when, Section}
 use Rattle.flow_file.specs.Value.{at_key, no_others, is_in, triple_of, band_between, band_of, text_of, name_of, list_of}
 
 -- a piece: its tick, and the ends of its band
@@ -72,9 +72,8 @@ is_signal_of place node = do
   or_fault (signal_named text) (fault.OutOfRange place)
 
 -- a feed: its name, its kind, and the keys of its kind
-unfoldable pub feed_of : Bytes → Data → Reading FeedPart
-feed_of place node = do
-  section ← section_of place node
+unfoldable pub feed_of : Section → Reading FeedPart
+feed_of section = do
   name ← at_key name_of section (codes "name")
   signal ← at_key is_signal_of section (codes "kind")
   if signal then signal_of section name else material_of section name

@@ -12,9 +12,12 @@ use Rattle.flow_file.specs.declared.fault.TextFault.TheVariants as fault
 use Rattle.flow_file.specs.declared.units.UnitKind.{UnitKind}
 use Rattle.flow_file.specs.declared.units.UnitKind.TheVariants as kind
 use Rattle.flow_file.specs.declared.kinds.Contents.{Contents}
+use Rattle.flow_file.specs.declared.kinds.Reaction.{Reaction}
+use Rattle.flow_file.specs.declared.kinds.Stages.{Stages}
 use Rattle.flow_file.specs.declared.kinds.Opening.{Opening}
+use Rattle.flow_file.specs.declared.kinds.Settings.{Settings}
 use Rattle.flow_file.specs.Read.{Reading, ◌>>=◌}
-use Rattle.flow_file.specs.Value.{Bytes, or_fault, when, Section, section_of, at_key, at_optional, no_others}
+use Rattle.flow_file.specs.Value.{Bytes, or_fault, when, Section, table_of, at_key, at_optional, no_others}
 use Rattle.flow_file.specs.Value.{is_in, number_in, count_in, band_of, pair_of, text_of, name_of, reference_of, list_of}
 
 -- a part of a whole, and a gain
@@ -51,17 +54,23 @@ tank_of section = do
   held ← contents_of section
   Ok (part.Tank input valve k held.volume held.flow held.conc held.temp)
 
-unfoldable pub reactor_of : Section → Reading KindPart
-reactor_of section = do
-  input ← at_key reference_of section (codes "in")
-  valve ← at_key reference_of section (codes "valve")
-  jacket ← at_key reference_of section (codes "jacket")
+-- what a reactor's contents do, and what they are at the first tick
+unfoldable pub reaction_of : Section → Reading Reaction
+reaction_of section = do
   k ← at_key ppm_in section (codes "k")
   rate ← at_key (list_of rate_point_of 1 most_rate_points) section (codes "rate")
   heat ← at_key gain_in section (codes "heat")
   ua ← at_key ppm_in section (codes "ua")
   held ← contents_of section
-  Ok (part.Reactor input valve jacket k rate heat ua held.volume held.flow held.conc held.temp)
+  Ok (record { k = k; rate = rate; heat = heat; ua = ua; held = held })
+
+unfoldable pub reactor_of : Section → Reading KindPart
+reactor_of section = do
+  input ← at_key reference_of section (codes "in")
+  valve ← at_key reference_of section (codes "valve")
+  jacket ← at_key reference_of section (codes "jacket")
+  its ← reaction_of section
+  Ok (part.Reactor input valve jacket its.k its.rate its.heat its.ua its.held.volume its.held.flow its.held.conc its.held.temp)
 
 -- the bands at two keys, a flow and a temperature
 unfoldable pub flow_and_temp_of : Section → Bytes → Bytes → Reading (Interval × Interval)
@@ -78,28 +87,40 @@ opening_of section = do
   vapour ← flow_and_temp_of section (codes "vapour_flow") (codes "vapour_temp")
   Ok (record { x = x; liquid_flow = liquid.0; liquid_temp = liquid.1; vapour_flow = vapour.0; vapour_temp = vapour.1 })
 
+-- the stages of a column, and what each holds and lets go
+unfoldable pub stages_of : Section → Reading Stages
+stages_of section = do
+  stages ← at_key (count_in 1 most_stages) section (codes "stages")
+  holdup ← at_key (number_in holdups) section (codes "holdup")
+  slope ← at_key (number_in slopes) section (codes "slope")
+  Ok (record { stages = stages; holdup = holdup; slope = slope })
+
 unfoldable pub column_of : Section → Reading KindPart
 column_of section = do
   liquid ← at_key reference_of section (codes "liquid")
   vapour ← at_key reference_of section (codes "vapour")
-  stages ← at_key (count_in 1 most_stages) section (codes "stages")
-  holdup ← at_key (number_in holdups) section (codes "holdup")
-  slope ← at_key (number_in slopes) section (codes "slope")
+  its ← stages_of section
   held ← opening_of section
-  Ok (part.Column
-      liquid vapour stages holdup slope held.x held.liquid_flow held.liquid_temp held.vapour_flow held.vapour_temp)
+  Ok (part.Column liquid vapour
+      its.stages its.holdup its.slope held.x held.liquid_flow held.liquid_temp held.vapour_flow held.vapour_temp)
 
-unfoldable pub controller_of : Section → Reading KindPart
-controller_of section = do
-  set ← at_key reference_of section (codes "set")
-  measured ← at_key reference_of section (codes "measured")
+-- the numbers and the bands of a controller
+unfoldable pub settings_of : Section → Reading Settings
+settings_of section = do
   kp ← at_key gain_in section (codes "kp")
   ki ← at_key gain_in section (codes "ki")
   bias ← at_key (number_in wide) section (codes "bias")
   integral_limits ← at_key band_of section (codes "integral_limits")
   integral ← at_key band_of section (codes "integral")
   out ← at_key band_of section (codes "out")
-  Ok (part.Controller set measured kp ki bias integral_limits integral out)
+  Ok (record { kp = kp; ki = ki; bias = bias; integral_limits = integral_limits; integral = integral; out = out })
+
+unfoldable pub controller_of : Section → Reading KindPart
+controller_of section = do
+  set ← at_key reference_of section (codes "set")
+  measured ← at_key reference_of section (codes "measured")
+  its ← settings_of section
+  Ok (part.Controller set measured its.kp its.ki its.bias its.integral_limits its.integral its.out)
 
 unfoldable pub mixer_of : Section → Reading KindPart
 mixer_of section = do
@@ -154,9 +175,8 @@ part_of kind.Mixer section = mixer_of section
 part_of kind.Splitter section = splitter_of section
 
 -- the limits that are a unit's own
-unfoldable pub own_limits_of : Bytes → Data → Reading OwnLimits
-own_limits_of place node = do
-  section ← section_of place node
+unfoldable pub own_limits_of : Section → Reading OwnLimits
+own_limits_of section = do
   flow ← at_optional band_of section (codes "flow")
   conc ← at_optional band_of section (codes "conc")
   temp ← at_optional band_of section (codes "temp")
@@ -171,14 +191,13 @@ no_limits = record { flow = None; conc = None; temp = None; volume = None; signa
 -- the limits of a unit, its own or none, behind which it has no other keys
 unfoldable pub last_limits_of : UnitKind → Section → Reading OwnLimits
 last_limits_of kind section = do
-  limits ← at_optional own_limits_of section (codes "limits")
+  limits ← at_optional (table_of own_limits_of) section (codes "limits")
   others ← no_others (codes "name" ∷ codes "kind" ∷ codes "limits" ∷ keys_of kind) section
   Ok (unwrap_or limits no_limits)
 
 -- a unit: its name, its kind, the keys of its kind, and its limits
-unfoldable pub unit_of : Bytes → Data → Reading UnitPart
-unit_of place node = do
-  section ← section_of place node
+unfoldable pub unit_of : Section → Reading UnitPart
+unit_of section = do
   name ← at_key name_of section (codes "name")
   kind ← at_key unit_kind_of section (codes "kind")
   part ← part_of kind section

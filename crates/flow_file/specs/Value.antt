@@ -47,6 +47,10 @@ section_of place node = do
   table ← or_fault (as_table node) (fault.WrongType place)
   Ok (record { prefix = place ++ codes "."; members = table })
 
+-- what is read of the keys of the table at a place
+unfoldable pub table_of : {A : Type 0} → (Section → Reading A) → Bytes → Data → Reading A
+table_of read place node = section_of place node >>= read
+
 -- the value at a key that is required, read at its place
 unfoldable pub at_key : {A : Type 0} → (Bytes → Data → Reading A) → Section → Bytes → Reading A
 at_key read section key = do

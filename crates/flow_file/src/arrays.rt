@@ -9,14 +9,14 @@ ghost use Rattle.flow_file.specs.Spots.{place_of};
 
 use crate::fault::Unread;
 use crate::reader::Reader;
-use crate::spot::Spot;
+use crate::spot::{Refusal, Spot};
 use parts::Listed;
 use std::alloc::Global;
 use toml::Value;
 use toml::value::Array;
 
 /// An array of `least` to `most` values.
-#[tactic(auto, using(crate::proofs::Lists::item_count_is_length), unfolding(crate::specs::Value::array_between))]
+#[tactic(auto, using(crate::proofs::Refusals::refused, crate::proofs::Lists::item_count_is_length), unfolding(crate::specs::Value::array_between))]
 fn array_between<'a>(
     alloc: Global,
     spot: Spot,
@@ -29,13 +29,13 @@ fn array_between<'a>(
     ensures length { IfOk result (λ array. (least ≤ vec_len array.now) × (vec_len array.now ≤ most)) }
 {
     let Some(array) = node.as_array() else {
-        return Err(spot.wrong_type(alloc)?);
+        return Err(spot.refused(alloc, Refusal::WrongType));
     };
     if most < array.len() {
-        return Err(spot.too_many(alloc)?);
+        return Err(spot.refused(alloc, Refusal::TooMany));
     }
     if array.len() < least {
-        return Err(spot.out_of_range(alloc)?);
+        return Err(spot.refused(alloc, Refusal::OutOfRange));
     }
     Ok(array)
 }

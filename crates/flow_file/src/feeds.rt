@@ -12,8 +12,9 @@ ghost use Rattle.flow_file.specs.Spots.{seen};
 use crate::arrays::ListOf;
 use crate::fault::Unread;
 use crate::reader::Reader;
-use crate::section::{Section, section_at};
-use crate::spot::Spot;
+use crate::section::Section;
+use crate::spot::{Refusal, Spot};
+use crate::tables::KeysReader;
 use crate::values::{Name, NumberIn, WideBand, band_between, text_at, triple_of};
 use parts::{FeedBand, FeedKind, FeedPart, Piece};
 use plant_names::Text;
@@ -37,13 +38,13 @@ impl Reader for PieceReader {
 
     ghost may_be = { λ _. IsPiece };
 
-    #[tactic(auto, using(crate::proofs::Lists::one_refusal), unfolding(crate::specs::Feeds::piece_of))]
+    #[tactic(auto, using(crate::proofs::Refusals::refused, crate::proofs::Lists::one_refusal), unfolding(crate::specs::Feeds::piece_of))]
     fn read(self, alloc: Global, spot: Spot, node: &Value) -> Result<Piece, Unread> {
         let Some((tick, (lo, hi))) = triple_of(node) else {
-            return Err(spot.wrong_type(alloc)?);
+            return Err(spot.refused(alloc, Refusal::WrongType));
         };
         if !BEGIN.holds(tick) {
-            return Err(spot.out_of_range(alloc)?);
+            return Err(spot.refused(alloc, Refusal::OutOfRange));
         }
         let band = band_between(alloc, spot, lo, hi)?;
         Ok(Piece {
@@ -146,12 +147,12 @@ impl Reader for SignalReader {
 
     ghost may_be = { λ _ _. Unit {0} };
 
-    #[tactic(auto, unfolding(crate::specs::Feeds::is_signal_of))]
+    #[tactic(auto, using(crate::proofs::Refusals::refused), unfolding(crate::specs::Feeds::is_signal_of))]
     fn read(self, alloc: Global, spot: Spot, node: &Value) -> Result<bool, Unread> {
         let text = text_at(alloc, spot, node)?;
         match signal_named(text) {
             Some(is_signal) => Ok(is_signal),
-            None => Err(spot.out_of_range(alloc)?),
+            None => Err(spot.refused(alloc, Refusal::OutOfRange)),
         }
     }
 }
@@ -160,7 +161,7 @@ impl Reader for SignalReader {
 #[derive(Clone, Copy)]
 pub(crate) struct FeedReader;
 
-impl Reader for FeedReader {
+impl KeysReader for FeedReader {
     type Item = FeedPart;
 
     ghost reads = { λ _. feed_of };
@@ -168,13 +169,12 @@ impl Reader for FeedReader {
     ghost may_be = { λ _. IsFeedPart };
 
     #[tactic(auto, unfolding(crate::specs::Feeds::feed_of))]
-    fn read(self, alloc: Global, spot: Spot, node: &Value) -> Result<FeedPart, Unread> {
-        let section = section_at(alloc, spot, node)?;
+    fn read_keys(self, alloc: Global, section: &Section) -> Result<FeedPart, Unread> {
         let name = section.read(alloc, "name", Name)?;
         if section.read(alloc, "kind", SignalReader)? {
-            signal_of(alloc, &section, name)
+            signal_of(alloc, section, name)
         } else {
-            material_of(alloc, &section, name)
+            material_of(alloc, section, name)
         }
     }
 }

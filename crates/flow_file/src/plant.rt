@@ -7,14 +7,15 @@ ghost use Rattle.flow_file.specs.Read.{Gives, GivesBy};
 ghost use Rattle.flow_file.specs.Value.{tree_of};
 ghost use Rattle.flow_file.specs.Spots.{seen};
 ghost use Rattle.flow_file.specs.Plant.{format_of, run_of, limits_of, widths_of};
-ghost use Rattle.flow_file.specs.Plant.{widths_at, feeds_at, frame_of, parts_of, parts_in};
+ghost use Rattle.flow_file.specs.Plant.{widths_at, feeds_at, frame_of, parts_at, parts_of, parts_in};
 
 use crate::arrays::ListOf;
 use crate::fault::{TextFault, Unread};
 use crate::feeds::FeedReader;
 use crate::reader::Reader;
-use crate::section::{Section, section_at};
-use crate::spot::Spot;
+use crate::section::Section;
+use crate::spot::{Refusal, Spot};
+use crate::tables::{KeysReader, TableOf};
 use crate::units::UnitReader;
 use crate::values::{CountIn, NumberIn, WideBand};
 use parts::{FeedParts, Parts, Widths};
@@ -80,10 +81,10 @@ impl Reader for FormatReader {
 
     ghost may_be = { λ _ _. Unit {0} };
 
-    #[tactic(auto, unfolding(crate::specs::Plant::format_of))]
+    #[tactic(auto, using(crate::proofs::Refusals::refused), unfolding(crate::specs::Plant::format_of))]
     fn read(self, alloc: Global, spot: Spot, node: &Value) -> Result<i64, Unread> {
         let Some(found) = node.as_integer() else {
-            return Err(spot.wrong_type(alloc)?);
+            return Err(spot.refused(alloc, Refusal::WrongType));
         };
         if found != 1 {
             return Err(Unread::Fault(TextFault::Format { found }));
@@ -96,7 +97,7 @@ impl Reader for FormatReader {
 #[derive(Clone, Copy)]
 struct RunReader;
 
-impl Reader for RunReader {
+impl KeysReader for RunReader {
     type Item = (u32, u32);
 
     ghost reads = { λ _. run_of };
@@ -104,8 +105,7 @@ impl Reader for RunReader {
     ghost may_be = { λ _ run. (1 ≤ run.0) × (run.0 ≤ most_ticks) × (1 ≤ run.1) × (run.1 ≤ longest_window) };
 
     #[tactic(auto, unfolding(crate::specs::Plant::run_of))]
-    fn read(self, alloc: Global, spot: Spot, node: &Value) -> Result<(u32, u32), Unread> {
-        let section = section_at(alloc, spot, node)?;
+    fn read_keys(self, alloc: Global, section: &Section) -> Result<(u32, u32), Unread> {
         let ticks = section.read(alloc, "ticks", TICKS)?;
         let window = section.read(alloc, "window", WINDOW)?;
         section.no_others(alloc, &["ticks", "window"])?;
@@ -117,7 +117,7 @@ impl Reader for RunReader {
 #[derive(Clone, Copy)]
 struct LimitsReader;
 
-impl Reader for LimitsReader {
+impl KeysReader for LimitsReader {
     type Item = Limits;
 
     ghost reads = { λ _. limits_of };
@@ -125,8 +125,7 @@ impl Reader for LimitsReader {
     ghost may_be = { λ _. AreWideLimits };
 
     #[tactic(auto, unfolding(crate::specs::Plant::limits_of))]
-    fn read(self, alloc: Global, spot: Spot, node: &Value) -> Result<Limits, Unread> {
-        let section = section_at(alloc, spot, node)?;
+    fn read_keys(self, alloc: Global, section: &Section) -> Result<Limits, Unread> {
         let flow = section.read(alloc, "flow", WideBand)?;
         let conc = section.read(alloc, "conc", WideBand)?;
         let temp = section.read(alloc, "temp", WideBand)?;
@@ -147,7 +146,7 @@ impl Reader for LimitsReader {
 #[derive(Clone, Copy)]
 struct WidthsReader;
 
-impl Reader for WidthsReader {
+impl KeysReader for WidthsReader {
     type Item = Widths;
 
     ghost reads = { λ _. widths_of };
@@ -155,8 +154,7 @@ impl Reader for WidthsReader {
     ghost may_be = { λ _. AreWidths };
 
     #[tactic(auto, unfolding(crate::specs::Plant::widths_of))]
-    fn read(self, alloc: Global, spot: Spot, node: &Value) -> Result<Widths, Unread> {
-        let section = section_at(alloc, spot, node)?;
+    fn read_keys(self, alloc: Global, section: &Section) -> Result<Widths, Unread> {
         let flow = section.read_optional(alloc, "flow", WIDTH)?;
         let conc = section.read_optional(alloc, "conc", WIDTH)?;
         let temp = section.read_optional(alloc, "temp", WIDTH)?;
@@ -172,15 +170,15 @@ impl Reader for WidthsReader {
 }
 
 /// The feeds.
-const FEEDS: ListOf<FeedReader> = ListOf {
-    each: FeedReader,
+const FEEDS: ListOf<TableOf<FeedReader>> = ListOf {
+    each: TableOf { keys: FeedReader },
     least: 0,
     most: MOST,
 };
 
 /// The units.
-const UNITS: ListOf<UnitReader> = ListOf {
-    each: UnitReader,
+const UNITS: ListOf<TableOf<UnitReader>> = ListOf {
+    each: TableOf { keys: UnitReader },
     least: 1,
     most: MOST,
 };
@@ -191,7 +189,7 @@ fn widths_at(alloc: Global, top: &Section) -> Result<Widths, Unread>
     ensures exact { Gives result (widths_at (seen top.now)) }
     ensures inside { IfOk result AreWidths }
 {
-    let found = top.read_optional(alloc, "width", WidthsReader)?;
+    let found = top.read_optional(alloc, "width", TableOf { keys: WidthsReader })?;
     Ok(found.unwrap_or(NO_WIDTHS))
 }
 
@@ -218,14 +216,33 @@ fn frame_of(alloc: Global, top: &Section) -> Result<Frame, Unread>
     ensures width { IfOk result (λ frame. AreWidths frame.width) }
 {
     top.read(alloc, "format", FormatReader)?;
-    let (ticks, window) = top.read(alloc, "run", RunReader)?;
-    let limits = top.read(alloc, "limits", LimitsReader)?;
+    let (ticks, window) = top.read(alloc, "run", TableOf { keys: RunReader })?;
+    let limits = top.read(alloc, "limits", TableOf { keys: LimitsReader })?;
     let width = widths_at(alloc, top)?;
     Ok(Frame {
         ticks,
         window,
         limits,
         width,
+    })
+}
+
+/// The parts that the keys of the whole text say.
+#[tactic(auto, unfolding(crate::specs::Plant::parts_at))]
+fn parts_at(alloc: Global, top: &Section) -> Result<Parts, Unread>
+    ensures { Gives result (parts_at (seen top.now)) }
+{
+    let frame = frame_of(alloc, top)?;
+    let feeds = feeds_at(alloc, top)?;
+    let units = top.read(alloc, "unit", UNITS)?;
+    top.no_others(alloc, &["format", "run", "limits", "width", "feed", "unit"])?;
+    Ok(Parts {
+        ticks: frame.ticks,
+        window: frame.window,
+        limits: frame.limits,
+        width: frame.width,
+        feeds,
+        units,
     })
 }
 
@@ -238,18 +255,7 @@ fn parts_of(alloc: Global, table: &Table) -> Result<Parts, Unread>
         prefix: String::new(alloc),
         table,
     };
-    let frame = frame_of(alloc, &top)?;
-    let feeds = feeds_at(alloc, &top)?;
-    let units = top.read(alloc, "unit", UNITS)?;
-    top.no_others(alloc, &["format", "run", "limits", "width", "feed", "unit"])?;
-    Ok(Parts {
-        ticks: frame.ticks,
-        window: frame.window,
-        limits: frame.limits,
-        width: frame.width,
-        feeds,
-        units,
-    })
+    parts_at(alloc, &top)
 }
 
 /// Reads a plant text: TOML with the keys of a plant and no others, each number, band, name and length in its range.
