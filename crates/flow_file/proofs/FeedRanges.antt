@@ -2,7 +2,7 @@
 use Rattle.std.proofs.Common.{◌≡◌, ℤ, pos, ◌≤◌, Bool, true, false, arith}
 use Rattle.std.specs.Prelude.{◌&&◌, int_le, nat_abs, if◌then◌else◌}
 use Rattle.std.proofs.lemmas.Int.{ints}
-use Rattle.parts.specs.InRange.{from_to, last_piece, most_pieces, most_feeds, IsName, IsPiece, IsFeedBand, IsFeedPart}
+use Rattle.parts.specs.InRange.{from_to, last_piece, most_pieces, most_feeds, IsPiece, IsFeedBand, IsFeedKind, IsFeedPart}
 use Rattle.parts.specs.InRange.{AreFeeds}
 use Rattle.toml.specs.Data.{as_array}
 use Rattle.flow_file.specs.declared.fault.TextFault.TheVariants as fault
@@ -45,28 +45,29 @@ unfolding feed_band_of
 feed_band place node = either (begins_with_array (as_array node)) (pieces place node) (constant place node)
 
 -- a feed of each kind
-material : (section : Section) (name : Bytes) → IsName name → Yields IsFeedPart (material_of section name)
+material : (section : Section) → Yields IsFeedKind (material_of section)
 unfolding material_of
-material section text name_is =
+material section =
     after (required feed_band section _) (λ flow flow_is.
     after (required feed_band section _) (λ conc conc_is.
     after (required feed_band section _) (λ temp temp_is.
     after (anything (no_others _ section)) (λ _ _.
-    given (record { name = name_is; kind = (flow_is, conc_is, temp_is) })))))
+    given (flow_is, conc_is, temp_is)))))
 
-signal : (section : Section) (name : Bytes) → IsName name → Yields IsFeedPart (signal_of section name)
+signal : (section : Section) → Yields IsFeedKind (signal_of section)
 unfolding signal_of
-signal section text name_is =
+signal section =
     after (required feed_band section _) (λ value value_is.
     after (anything (no_others _ section)) (λ _ _.
-    given (record { name = name_is; kind = value_is })))
+    given value_is))
 
 feed : (section : Section) → Yields IsFeedPart (feed_of section)
 unfolding feed_of
 feed section =
     after (required name section _) (λ name name_is.
     after (anything (at_key is_signal_of section _)) (λ is_signal _.
-    either is_signal (signal section name name_is) (material section name name_is)))
+    after (either is_signal (signal section) (material section)) (λ brings brings_is.
+    given (record { name = name_is; kind = brings_is }))))
 
 -- the feeds
 pub feeds : Reads AreFeeds (list_of (table_of feed_of) 0 most_feeds)

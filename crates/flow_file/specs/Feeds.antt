@@ -4,6 +4,7 @@ use Rattle.std.specs.Prelude.{[], ◌∷◌, bytes_eq, codes, Option, Some, None
 use Rattle.parts.specs.declared.feeds.Piece.{Piece}
 use Rattle.parts.specs.declared.feeds.FeedBand.{FeedBand}
 use Rattle.parts.specs.declared.feeds.FeedBand.TheVariants as feed_band
+use Rattle.parts.specs.declared.feeds.FeedKind.{FeedKind}
 use Rattle.parts.specs.declared.feeds.FeedKind.TheVariants as feed_kind
 use Rattle.parts.specs.declared.feeds.FeedPart.{FeedPart}
 use Rattle.parts.specs.InRange.{from_to, last_piece, most_pieces}
@@ -43,21 +44,24 @@ constant_of place node = do
 unfoldable pub feed_band_of : Bytes → Data → Reading FeedBand
 feed_band_of place node = if begins_with_array (as_array node) then pieces_of place node else constant_of place node
 
--- a material feed
-unfoldable pub material_of : Section → Bytes → Reading FeedPart
-material_of section name = do
+-- what a material feed brings
+unfoldable pub material_of : Section → Reading FeedKind
+material_of section = do
   flow ← at_key feed_band_of section (codes "flow")
   conc ← at_key feed_band_of section (codes "conc")
   temp ← at_key feed_band_of section (codes "temp")
   others ← no_others (codes "name" ∷ codes "kind" ∷ codes "flow" ∷ codes "conc" ∷ codes "temp" ∷ []) section
-  Ok (record { name = name; kind = feed_kind.Material flow conc temp })
+  Ok (feed_kind.Material flow conc temp)
 
--- a signal feed
-unfoldable pub signal_of : Section → Bytes → Reading FeedPart
-signal_of section name = do
+-- what a signal feed brings
+unfoldable pub signal_of : Section → Reading FeedKind
+signal_of section = do
   value ← at_key feed_band_of section (codes "value")
   others ← no_others (codes "name" ∷ codes "kind" ∷ codes "value" ∷ []) section
-  Ok (record { name = name; kind = feed_kind.Signal value })
+  Ok (feed_kind.Signal value)
+
+abbrev pub kind_of : Section → Bool → Reading FeedKind
+kind_of section signal = if signal then signal_of section else material_of section
 
 -- whether a feed is a signal, by the name of its kind
 abbrev pub signal_named : Bytes → Option Bool
@@ -76,4 +80,5 @@ unfoldable pub feed_of : Section → Reading FeedPart
 feed_of section = do
   name ← at_key name_of section (codes "name")
   signal ← at_key is_signal_of section (codes "kind")
-  if signal then signal_of section name else material_of section name
+  brings ← kind_of section signal
+  Ok (record { name = name; kind = brings })

@@ -1,12 +1,12 @@
 //! Readers of the feeds of a plant text.
 
 ghost use Rattle.std.specs.Prelude.{◌≡◌, IfOk};
-ghost use Rattle.parts.specs.InRange.{IsName, IsPiece, IsFeedBand, IsFeedPart};
+ghost use Rattle.parts.specs.InRange.{IsPiece, IsFeedBand, IsFeedKind, IsFeedPart};
 ghost use Rattle.toml.specs.Data.{as_array};
 ghost use Rattle.toml.specs.View.{view};
 ghost use Rattle.flow_file.specs.Read.{Gives};
 ghost use Rattle.flow_file.specs.Feeds.{piece_of, begins_with_array, feed_band_of};
-ghost use Rattle.flow_file.specs.Feeds.{material_of, signal_of, signal_named, is_signal_of, feed_of};
+ghost use Rattle.flow_file.specs.Feeds.{material_of, signal_of, kind_of, signal_named, is_signal_of, feed_of};
 ghost use Rattle.flow_file.specs.Spots.{seen};
 
 use crate::arrays::ListOf;
@@ -17,7 +17,6 @@ use crate::spot::{Refusal, Spot};
 use crate::tables::KeysReader;
 use crate::values::{Name, NumberIn, WideBand, band_between, text_at, triple_of};
 use parts::{FeedBand, FeedKind, FeedPart, Piece};
-use plant_names::Text;
 use std::alloc::Global;
 use toml::Value;
 
@@ -97,32 +96,40 @@ impl Reader for FeedBandReader {
     }
 }
 
-/// The rest of a material feed.
+/// What a material feed brings.
 #[tactic(auto, unfolding(crate::specs::Feeds::material_of))]
-fn material_of(alloc: Global, section: &Section, name: Text) -> Result<FeedPart, Unread>
-    requires { IsName name }
-    ensures exact { Gives result (material_of (seen section.now) name) }
-    ensures inside { IfOk result IsFeedPart }
+fn material_of(alloc: Global, section: &Section) -> Result<FeedKind, Unread>
+    ensures exact { Gives result (material_of (seen section.now)) }
+    ensures inside { IfOk result IsFeedKind }
 {
     let flow = section.read(alloc, "flow", FeedBandReader)?;
     let conc = section.read(alloc, "conc", FeedBandReader)?;
     let temp = section.read(alloc, "temp", FeedBandReader)?;
     section.no_others(alloc, &["name", "kind", "flow", "conc", "temp"])?;
-    let kind = FeedKind::Material { flow, conc, temp };
-    Ok(FeedPart { name, kind })
+    Ok(FeedKind::Material { flow, conc, temp })
 }
 
-/// The rest of a signal feed.
+/// What a signal feed brings.
 #[tactic(auto, unfolding(crate::specs::Feeds::signal_of))]
-fn signal_of(alloc: Global, section: &Section, name: Text) -> Result<FeedPart, Unread>
-    requires { IsName name }
-    ensures exact { Gives result (signal_of (seen section.now) name) }
-    ensures inside { IfOk result IsFeedPart }
+fn signal_of(alloc: Global, section: &Section) -> Result<FeedKind, Unread>
+    ensures exact { Gives result (signal_of (seen section.now)) }
+    ensures inside { IfOk result IsFeedKind }
 {
     let value = section.read(alloc, "value", FeedBandReader)?;
     section.no_others(alloc, &["name", "kind", "value"])?;
-    let kind = FeedKind::Signal { value };
-    Ok(FeedPart { name, kind })
+    Ok(FeedKind::Signal { value })
+}
+
+/// What a feed brings.
+fn kind_of(alloc: Global, section: &Section, is_signal: bool) -> Result<FeedKind, Unread>
+    ensures exact { Gives result (kind_of (seen section.now) is_signal) }
+    ensures inside { IfOk result IsFeedKind }
+{
+    if is_signal {
+        signal_of(alloc, section)
+    } else {
+        material_of(alloc, section)
+    }
 }
 
 /// Whether a feed of this kind is a signal.
@@ -171,10 +178,8 @@ impl KeysReader for FeedReader {
     #[tactic(auto, unfolding(crate::specs::Feeds::feed_of))]
     fn read_keys(self, alloc: Global, section: &Section) -> Result<FeedPart, Unread> {
         let name = section.read(alloc, "name", Name)?;
-        if section.read(alloc, "kind", SignalReader)? {
-            signal_of(alloc, section, name)
-        } else {
-            material_of(alloc, section, name)
-        }
+        let is_signal = section.read(alloc, "kind", SignalReader)?;
+        let kind = kind_of(alloc, section, is_signal)?;
+        Ok(FeedPart { name, kind })
     }
 }
