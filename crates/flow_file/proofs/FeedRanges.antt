@@ -1,13 +1,12 @@
 -- The ranges of the feeds of a plant text.
-use Rattle.std.proofs.Common.{◌≡◌, ℤ, pos, ◌≤◌, Bool, true, false, arith}
-use Rattle.std.specs.Prelude.{◌&&◌, int_le, nat_abs, if◌then◌else◌}
-use Rattle.std.proofs.lemmas.Int.{ints}
+use Rattle.std.proofs.Common.{◌≡◌, ℤ, ◌≤◌, Bool, true, false}
+use Rattle.std.specs.Prelude.{nat_abs, if◌then◌else◌}
 use Rattle.parts.specs.InRange.{from_to, last_piece, most_pieces, most_feeds, IsPiece, IsFeedBand, IsFeedKind, IsFeedPart}
 use Rattle.parts.specs.InRange.{AreFeeds}
 use Rattle.toml.specs.Data.{as_array}
 use Rattle.flow_file.specs.declared.fault.TextFault.TheVariants as fault
 use Rattle.flow_file.specs.Read.{Reading}
-use Rattle.flow_file.specs.Value.{Bytes, or_fault, is_in, triple_of, Section, table_of, at_key, no_others, list_of}
+use Rattle.flow_file.specs.Value.{or_fault, is_in, triple_of, Section, table_of, at_key, no_others, list_of}
 use Rattle.flow_file.specs.Feeds.{piece_of, pieces_of, constant_of, feed_band_of, begins_with_array}
 use Rattle.flow_file.specs.Feeds.{material_of, signal_of, is_signal_of, feed_of}
 use Rattle.flow_file.proofs.Yields.{Yields, Reads, given, anything, after, tested, table, required}

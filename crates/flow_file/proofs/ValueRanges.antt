@@ -1,5 +1,5 @@
 -- The ranges of single values: numbers, bands, names.
-use Rattle.std.proofs.Common.{◌≡◌, ℕ, ℤ, pos, ◌≤◌, true, Option, Some, None, arith}
+use Rattle.std.proofs.Common.{◌≡◌, ℕ, ℤ, ◌≤◌, true, Option, Some, None, arith}
 use Rattle.std.specs.Prelude.{◌&&◌, int_le, nat_abs}
 use Rattle.std.proofs.lemmas.Int.{ints}
 use Rattle.quant.specs.Interval.{Interval, Holds, wide}

@@ -1,5 +1,5 @@
 -- Values in the tree that a TOML text is, each at its place: a path of keys and of indices from 0.
-use Rattle.std.specs.Prelude.{◌&&◌, ◌++◌, ℕ, suc, ℤ, pos, nat_abs, nat_le, int_le, Bool, if◌then◌else◌}
+use Rattle.std.specs.Prelude.{◌&&◌, ◌++◌, ℕ, suc, ℤ, nat_abs, nat_le, int_le, Bool, if◌then◌else◌}
 use Rattle.std.specs.Prelude.{List, [], ◌∷◌, bytes_eq, codes, decimal, Option, Some, None, Ok, Err}
 use Rattle.std.specs.List.{list_any}
 use Rattle.std.specs.Str.{is_utf8}
