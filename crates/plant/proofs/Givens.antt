@@ -35,9 +35,9 @@ gives-all parts tick f x before now sound fed has have h =
     ∙ (inside-length (given_bands parts tick f) (limits_at parts f) (fed.fed tick f h)
     ∙ (sym (has.channels f (sound.feeds_counted f h)) ∙ ap length (sym (have.rest f (omega arith)))))
 
-pub feed-there : (parts : FileParts) (f : ℕ) → ArePartsSound parts → f < length parts.feeds →
-    f < length (streams_of parts)
-feed-there parts f sound h = sound.feeds_counted f h
+pub feed-there : (parts : FileParts) (f : ℕ) (before now : List (List Interval)) → ArePartsSound parts →
+    HasChannels parts before → length now ≡ length before → f < length parts.feeds → f < length now
+feed-there parts f before now sound has e h = omega (arith, sound.feeds_counted f h, has.counted, e)
 
 pub have_given-none : (parts : FileParts) (tick : ℕ) (before : List (List Interval)) →
     HaveGiven parts tick 0 before before
