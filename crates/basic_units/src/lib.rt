@@ -10,6 +10,3 @@ pub use mixer::Mixer;
 pub use reactor::Reactor;
 pub use splitter::Splitter;
 pub use tank::Tank;
-
-#[cfg(test)]
-mod tests;

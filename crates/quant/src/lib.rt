@@ -33,6 +33,3 @@ pub use rate_table::RateTable;
 pub use shares::{MILLION, keep, keep_band, share, share_band};
 pub use sums::{add, add_band, sub, sub_band};
 pub use trays::{tray, tray_band};
-
-#[cfg(test)]
-mod tests;
