@@ -11,6 +11,3 @@ pub use mixer::Mixer;
 pub use reactor::Reactor;
 pub use splitter::Splitter;
 pub use tank::Tank;
-
-#[cfg(test)]
-mod tests;

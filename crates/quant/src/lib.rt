@@ -35,6 +35,3 @@ pub use shares::{keep, keep_band, share, share_band};
 pub use sizes::{MILLION, STEEPEST, WIDEST};
 pub use sums::{add, add_band, sub, sub_band};
 pub use trays::{tray, tray_band};
-
-#[cfg(test)]
-mod tests;

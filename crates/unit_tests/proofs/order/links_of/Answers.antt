@@ -1,9 +1,9 @@
-use Rattle.std.proofs.Common.{ℕ, zero, suc, ◌<◌, List, [], ◌∷◌, map, All, Contains, slice_index_or, refl, sym, ◌∙◌}
-use Rattle.std.proofs.Common.{subst, arith}
+use Rattle.std.proofs.Common.{ℕ, zero, suc, ◌<◌, List, [], ◌∷◌, map, All, Contains, slice_index_or}
+use Rattle.std.proofs.Common.{refl, sym, ◌∙◌, subst, arith}
 use Rattle.std.proofs.lemmas.List.{length-map}
 use Rattle.std.proofs.lemmas.List.Elements.{All-head, All-tail, All-contains}
 use Rattle.topology.specs.Links.{AreLinks}
-use Rattle.topology.proofs.tests.links_of.Goals as goal
+use Rattle.unit_tests.proofs.order.links_of.Goals as goal
 
 -- what holds of each unit of each row
 rows_there : {X : Type 0} (f : X → List ℕ) (rows : List X) (n : ℕ) → All (λ row. All (λ v. v < n) (f row)) rows →
@@ -24,10 +24,6 @@ returns c =
       counted = length-map rows (λ r. r.items) ∙ omega
           (arith, c.args.instant.ok.0, c.args.reads.ok.0, c.len.ensures, c.len-units.ensures, c.if-len-units.false);
       few = omega (arith, c.args.instant.ok.0, c.len-units.ensures, c.if-units.false);
-      there = λ u v _ h. omega (
-        arith,
-        c.args.instant.ok.0,
-        c.len-units.ensures,
-        rows_there (λ r. r.items) rows n there u v h,
-      );
+      there = λ u v _ h. omega
+          (arith, c.args.instant.ok.0, c.len-units.ensures, rows_there (λ r. r.items) rows n there u v h);
     })
