@@ -220,6 +220,20 @@ quotient-le_whole r a b v w p q h =
 pub quotient-exact_whole : (r : Rounding) (k v : ℤ) → pos 1 ≤ℤ v → quotient r (k *ℤ v) v ≡ k
 quotient-exact_whole r k v p = ap (λ (t : ℤ). quotient r (k *ℤ t) v) (sym (divisor-same v p)) ∙ quotient-exact r k v
 
+-- so the quotient of what lies between two multiples lies between the multipliers
+pub quotient-between : (r : Rounding) (l h a v : ℤ) → (l *ℤ divisor v) ≤ℤ a → a ≤ℤ (h *ℤ divisor v) →
+    (l ≤ℤ quotient r a v) × (quotient r a v ≤ℤ h)
+quotient-between r l h a v p q = (
+  omega (arith, ints, quotient-rises r (l *ℤ divisor v) a v p, quotient-exact r l v),
+  omega (arith, ints, quotient-rises r a (h *ℤ divisor v) v q, quotient-exact r h v),
+)
+
+pub quotient-between_whole : (r : Rounding) (l h a v : ℤ) → pos 1 ≤ℤ v → (l *ℤ v) ≤ℤ a → a ≤ℤ (h *ℤ v) →
+    (l ≤ℤ quotient r a v) × (quotient r a v ≤ℤ h)
+quotient-between_whole r l h a v o p q =
+    let same = divisor-same v o in
+    quotient-between r l h a v (omega (arith, ints, ap (λ (t : ℤ). l *ℤ t) same)) (omega (arith, ints, ap (λ (t : ℤ). h *ℤ t) same))
+
 -- the quotient that code has divided
 pub quotient-floor : (a b x y q : ℤ) → pos 1 ≤ℤ b → x ≡ a → y ≡ b → q ≡ int_div_euclid x y → q ≡ quotient Floor a b
 unfolding quotient

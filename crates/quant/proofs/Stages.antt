@@ -6,7 +6,7 @@ use Rattle.quant.specs.Interval.{Holds, around, wide, widest}
 use Rattle.quant.specs.Hull.{IsMonotone1, IsMonotone5}
 use Rattle.quant.specs.Rounding.{Rounding, quotient}
 use Rattle.quant.specs.Operation.{million, kept, tray, stage_flows, holdups, slopes, weights, IsDrainable, contents, greatest_content, stage_contents, greatest_stage_content}
-use Rattle.quant.proofs.Division.{add-times, sub-times, times-times, times-le, le-times, ge-times, quotient-rises, quotient-exact_whole}
+use Rattle.quant.proofs.Division.{add-times, sub-times, times-times, times-le, le-times, ge-times, quotient-rises, quotient-between_whole}
 use Rattle.quant.proofs.Operations.{IsDrawn, drawn-monotone, quotient-drawn}
 
 -- f grows by k with each step of its argument
@@ -239,19 +239,5 @@ tray-around r holdup slope x xa yb l v a b c h s i j d =
       d.leaves,
       d.passes,
     ) in
-    record {
-      above = omega (
-        arith,
-        ints,
-        quotient-rises r (neg_ℤ (pos greatest_stage_content) *ℤ w)
-            (held holdup slope x xa yb l v) w low,
-        quotient-exact_whole r (neg_ℤ (pos greatest_stage_content)) w one,
-      );
-      below = omega (
-        arith,
-        ints,
-        quotient-rises r (held holdup slope x xa yb l v)
-            (pos greatest_stage_content *ℤ w) w high,
-        quotient-exact_whole r (pos greatest_stage_content) w one,
-      );
-    }
+    let both = quotient-between_whole r (neg_ℤ (pos greatest_stage_content)) (pos greatest_stage_content) _ w one low high in
+    record { above = both.0; below = both.1 }
