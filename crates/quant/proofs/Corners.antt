@@ -201,8 +201,7 @@ corners4 f first second C D M V p q c d low high =
               ints,
               low.least m w h k,
               first C.lo a D.lo m w v.1.above,
-              second a D.lo b m w
-                  v.2.1.above,
+              second a D.lo b m w v.2.1.above,
               v.2.2.2.2,
             );
             below = omega (
@@ -210,8 +209,7 @@ corners4 f first second C D M V p q c d low high =
               ints,
               high.greatest m w h k,
               first a C.hi D.hi m w v.1.below,
-              second a b D.hi m w
-                  v.2.1.below,
+              second a b D.hi m w v.2.1.below,
               v.2.2.2.2,
             );
           };
@@ -353,16 +351,14 @@ stage-corners r holdup slope X A B L V p q x a b pushes low high =
               arith,
               ints,
               low.least l v h k,
-              rise X.lo A.lo B.lo e f g t.1.above t.2.1.above
-                  t.2.2.1.above,
+              rise X.lo A.lo B.lo e f g t.1.above t.2.1.above t.2.2.1.above,
               t.2.2.2.2.2,
             );
             below = omega (
               arith,
               ints,
               high.greatest l v h k,
-              rise e f g X.hi A.hi B.hi t.1.below t.2.1.below
-                  t.2.2.1.below,
+              rise e f g X.hi A.hi B.hi t.1.below t.2.1.below t.2.2.1.below,
               t.2.2.2.2.2,
             );
           };

@@ -14,8 +14,7 @@ add-times a b c = omega (
   arith,
   ints,
   ap (λ (t : ℕ). t * up c) (sum_is_lem a b),
-  ap (λ (t : ℕ). t * down c)
-      (sum_is_lem a b),
+  ap (λ (t : ℕ). t * down c) (sum_is_lem a b),
 )
 
 neg-times : (a b : ℤ) → neg_ℤ a *ℤ b ≡ neg_ℤ (a *ℤ b)
@@ -24,8 +23,7 @@ neg-times a b = omega (
   ints,
   ap (λ (t : ℕ). t * up b) (neg_is a).0,
   ap (λ (t : ℕ). t * up b) (neg_is a).1,
-  ap
-      (λ (t : ℕ). t * down b) (neg_is a).0,
+  ap (λ (t : ℕ). t * down b) (neg_is a).0,
   ap (λ (t : ℕ). t * down b) (neg_is a).1,
 )
 
@@ -98,8 +96,7 @@ no-floor-above x y a b v w p q h n l =
     omega (
       arith,
       mul-le-mul_right w (below-parts x a v p),
-      mul-le-mul_right v
-          (above-parts y b w q),
+      mul-le-mul_right v (above-parts y b w q),
       cross-parts a b v w h,
       mul-le-mul_right (v * w) (lt_out y x l),
     )
@@ -167,8 +164,7 @@ floor-is x a v o p q =
       arith,
       ints,
       floors-le x (int_div_euclid a v) a v o p (floor-above_at a v o),
-      floors-le
-          (int_div_euclid a v) x a v o (floor-below_at a v o) q,
+      floors-le (int_div_euclid a v) x a v o (floor-below_at a v o) q,
     )
 
 -- a multiple of the divisor on top adds the multiplier
@@ -212,8 +208,7 @@ quotient-le_whole r a b v w p q h =
       arith,
       ints,
       ap (λ (t : ℤ). a *ℤ t) (divisor-same w q),
-      ap (λ (t : ℤ). b *ℤ t)
-          (divisor-same v p),
+      ap (λ (t : ℤ). b *ℤ t) (divisor-same v p),
       h,
     ))
 

@@ -41,8 +41,7 @@ risen-before r first (to ∷ rest) t s h =
       ints,
       step.hotter,
       passed-before r first to t step h,
-      risen-before r to rest t s.1
-          (omega (arith, ints, step.hotter)),
+      risen-before r to rest t s.1 (omega (arith, ints, step.hotter)),
     )
 
 pub lookup-below : (r : Rounding) (first : ℤ × ℤ) (rest : List (ℤ × ℤ)) (t : ℤ) → AreSteps (first ∷ rest) →

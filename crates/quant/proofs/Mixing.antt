@@ -87,8 +87,7 @@ mix-first r a b d m n h = omega (
   ints,
   mix-is_blend r a d m n,
   mix-is_blend r b d m n,
-  blend-old r a b d
-      (not_negative n) (volume m n) h,
+  blend-old r a b d (not_negative n) (volume m n) h,
 )
 
 pub mix-second : (r : Rounding) (c a b m n : ℤ) → a ≤ℤ b → mix r c a m n ≤ℤ mix r c b m n
@@ -97,8 +96,7 @@ mix-second r c a b m n h = omega (
   ints,
   mix-is_blend r c a m n,
   mix-is_blend r c b m n,
-  blend-added r c a b
-      (not_negative n) (volume m n) h,
+  blend-added r c a b (not_negative n) (volume m n) h,
 )
 
 volume-rises : (k m n : ℤ) → k ≤ℤ m → volume k n ≤ℤ volume m n

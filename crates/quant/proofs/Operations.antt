@@ -156,8 +156,7 @@ share-gains r a b g h =
     omega (
       arith,
       ints,
-      quotient-rises r (b *ℤ n)
-          (a *ℤ n +ℤ (b -ℤ a) *ℤ divisor million) million more,
+      quotient-rises r (b *ℤ n) (a *ℤ n +ℤ (b -ℤ a) *ℤ divisor million) million more,
       quotient-shifts r (a *ℤ n) (b -ℤ a) million,
     )
 
@@ -201,8 +200,7 @@ weighed-times c d w n u =
       arith,
       ints,
       ap (λ (t : ℤ). t *ℤ u) (weighed-is c d w n),
-      add-times (c *ℤ w)
-          ((d -ℤ c) *ℤ n) u,
+      add-times (c *ℤ w) ((d -ℤ c) *ℤ n) u,
       times-times c w u,
       times-times (d -ℤ c) n u,
     )
@@ -278,11 +276,9 @@ blend-volume_less r c d m u v h =
 -- it falls with the volume where what is added is not less, and else rises
 pub blend-volume : (r : Rounding) (c d m : ℤ) → IsDrawn d c (blend r c d m)
 blend-volume r c d m = record {
-  up = λ u v p h. blend-volume_less r c d m v u
-      (ge-times _ _ (d -ℤ c) (omega (arith, ints))
+  up = λ u v p h. blend-volume_less r c d m v u (ge-times _ _ (d -ℤ c) (omega (arith, ints))
       (part-cross (divisor u) (divisor v) m (one-le_divisor u) (divisor-rises u v h)));
-  down = λ u v p h. blend-volume_less r c d m u v
-      (le-times _ _ (d -ℤ c) (omega (arith, ints))
+  down = λ u v p h. blend-volume_less r c d m u v (le-times _ _ (d -ℤ c) (omega (arith, ints))
       (part-cross (divisor u) (divisor v) m (one-le_divisor u) (divisor-rises u v h)));
 }
 

@@ -156,8 +156,7 @@ under-way-points points i d t rate h l w =
     let rest = drop (i + 1) points in
     let to = get_or points i d in (
       All-head HasRate (get_or points (i - 1) d) (to ∷ rest) u.each,
-      All-head HasRate to rest
-          (All-tail HasRate (get_or points (i - 1) d) (to ∷ rest) u.each),
+      All-head HasRate to rest (All-tail HasRate (get_or points (i - 1) d) (to ∷ rest) u.each),
       u.steps.0,
       u.below,
     )
