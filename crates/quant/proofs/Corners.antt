@@ -180,7 +180,8 @@ greatest-drawn c d e g f A B x y p h a b t s i =
       greatest = λ u v m n. omega (arith, ints, k.least u v m n);
     }
 
--- so the hull of what rises with its first two arguments lies between the least at their lower and the greatest at their
+-- so the hull of what rises with its first two arguments lies between the least at their lower and the greatest at
+-- their
 -- upper ends
 corners4 : (f : ℤ → ℤ → ℤ → ℤ → ℤ) → ((a b d m v : ℤ) → a ≤ℤ b → f a d m v ≤ℤ f b d m v) →
     ((c a b m v : ℤ) → a ≤ℤ b → f c a m v ≤ℤ f c b m v) → (C D M V : Interval) (p q : ℤ) → IsBand C → IsBand D →

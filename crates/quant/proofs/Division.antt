@@ -227,7 +227,8 @@ pub quotient-between_whole : (r : Rounding) (l h a v : ℤ) → pos 1 ≤ℤ v �
     (l ≤ℤ quotient r a v) × (quotient r a v ≤ℤ h)
 quotient-between_whole r l h a v o p q =
     let same = divisor-same v o in
-    quotient-between r l h a v (omega (arith, ints, ap (λ (t : ℤ). l *ℤ t) same)) (omega (arith, ints, ap (λ (t : ℤ). h *ℤ t) same))
+    quotient-between r l h a v (omega (arith, ints, ap (λ (t : ℤ). l *ℤ t) same))
+    (omega (arith, ints, ap (λ (t : ℤ). h *ℤ t) same))
 
 -- the quotient that code has divided
 pub quotient-floor : (a b x y q : ℤ) → pos 1 ≤ℤ b → x ≡ a → y ≡ b → q ≡ int_div_euclid x y → q ≡ quotient Floor a b

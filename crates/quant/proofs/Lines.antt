@@ -1,4 +1,5 @@
--- A table is linear between two neighbours: the rises before them have been passed, and those behind them have not begun.
+-- A table is linear between two neighbours: the rises before them have been passed, and those behind them have not
+-- begun.
 use Rattle.std.proofs.Common.{◌≡◌, ℤ, pos, ◌+ℤ◌, ◌-ℤ◌, ◌*ℤ◌, ◌≤ℤ◌, List, [], ◌∷◌, ◌++◌, arith, refl, sym, ap, ◌∙◌}
 use Rattle.std.proofs.lemmas.Int.{ints, clamps}
 use Rattle.quant.specs.Rounding.{Rounding, quotient}

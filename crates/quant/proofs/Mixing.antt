@@ -123,7 +123,8 @@ mix-second_alone r c d m n h k =
     ∙ ap (λ t. blend r d c t (volume n m)) none
     ∙ blend-nothing r d c (volume n m) (omega (arith, ints, clamps))
 
--- with less and with more of the second flow a mix is one of the mixes turned round where the first flows, twice the second
+-- with less and with more of the second flow a mix is one of the mixes turned round where the first flows, twice the
+-- second
 -- content where the second alone does, and else first the first content
 two-mixes : (P : ℤ → ℤ → Type 0) (r : Rounding) (c d m k n : ℤ) → k ≤ℤ n → P (mix r d c k m) (mix r d c n m) → P d d →
     P c (mix r c d m n) → P (mix r c d m k) (mix r c d m n)

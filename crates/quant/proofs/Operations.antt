@@ -290,7 +290,17 @@ blend-monotone r = monotone4 (blend r) (blend-old r) (blend-added r)
 -- the same, seen from what is added
 weighed-new : (c d w n : ℤ) → weighed c d w n ≡ d *ℤ w -ℤ (d -ℤ c) *ℤ (w -ℤ n)
 weighed-new c d w n =
-    omega (arith, ints, weighed-is c d w n, sub-times d c w, *ℤ_comm (d -ℤ c) (w -ℤ n), sub-times w n (d -ℤ c), *ℤ_comm w (d -ℤ c), *ℤ_comm n (d -ℤ c))
+    omega (
+      arith,
+      ints,
+      weighed-is c d w n,
+      sub-times d c w,
+      *ℤ_comm (d -ℤ c) (w -ℤ n),
+      sub-times w n
+          (d -ℤ c),
+      *ℤ_comm w (d -ℤ c),
+      *ℤ_comm n (d -ℤ c),
+    )
 
 -- a blend lies between what is there and what is added
 pub blend-between_up : (r : Rounding) (c d m v : ℤ) → c ≤ℤ d → (c ≤ℤ blend r c d m v) × (blend r c d m v ≤ℤ d)
@@ -355,7 +365,8 @@ pub gain-within : (r : Rounding) (k a : ℤ) (m p n : ℕ) → m * p ≡ n * 100
 unfolding gain
 gain-within r k a m p n e h i =
     let size = product-around a k m p h i in
-    let both = quotient-between r (neg_ℤ (pos n)) (pos n) (a *ℤ k) million (omega (arith, ints, clamps)) (omega (arith, ints, clamps)) in
+    let both = quotient-between r (neg_ℤ (pos n)) (pos n) (a *ℤ k) million (omega (arith, ints, clamps))
+    (omega (arith, ints, clamps)) in
     record { above = both.0; below = both.1 }
 
 pub gain-around : (r : Rounding) (k a : ℤ) → Holds amounts a → Holds gains k → Holds contents (gain r k a)

@@ -224,5 +224,6 @@ tray-around r holdup slope x xa yb l v a b c h s i j d =
     omega (arith, ints, own.0, above.0, below.0, d.leaves, d.passes) in
     let high : held holdup slope x xa yb l v ≤ℤ (pos greatest_stage_content *ℤ w) =
     omega (arith, ints, own.1, above.1, below.1, d.leaves, d.passes) in
-    let both = quotient-between_whole r (neg_ℤ (pos greatest_stage_content)) (pos greatest_stage_content) _ w one low high in
+    let both = quotient-between_whole r (neg_ℤ (pos greatest_stage_content))
+    (pos greatest_stage_content) _ w one low high in
     record { above = both.0; below = both.1 }

@@ -52,22 +52,26 @@ bounds-ins-i-in-loop-i-2 c =
 
 pub mix_band-conc-requires-clause-second : goal.mix_band-conc-requires-clause-second
 mix_band-conc-requires-clause-second c =
-    content-inside _ (channel-inside c.args.self.now.inputs c.loop-i.i 1 (3 * c.loop-i.i + 1) c.args.ins.now _ c.requires.inputs
+    content-inside _ (channel-inside c.args.self.now.inputs c.loop-i.i 1
+    (3 * c.loop-i.i + 1) c.args.ins.now _ c.requires.inputs
     c.loop-i-test.true (lit< tt) (omega arith) c.index-ins-i-in-loop-i.is)
 
 pub mix_band-conc-requires-clause-second_flow : goal.mix_band-conc-requires-clause-second_flow
 mix_band-conc-requires-clause-second_flow c =
-    flow-inside _ (channel-inside c.args.self.now.inputs c.loop-i.i 0 (3 * c.loop-i.i) c.args.ins.now _ c.requires.inputs
+    flow-inside _ (channel-inside c.args.self.now.inputs c.loop-i.i 0
+    (3 * c.loop-i.i) c.args.ins.now _ c.requires.inputs
     c.loop-i-test.true (lit< tt) (omega arith) c.index-ins-i.is)
 
 pub mix_band-temp-requires-clause-second : goal.mix_band-temp-requires-clause-second
 mix_band-temp-requires-clause-second c =
-    content-inside _ (channel-inside c.args.self.now.inputs c.loop-i.i 2 (3 * c.loop-i.i + 2) c.args.ins.now _ c.requires.inputs
+    content-inside _ (channel-inside c.args.self.now.inputs c.loop-i.i 2
+    (3 * c.loop-i.i + 2) c.args.ins.now _ c.requires.inputs
     c.loop-i-test.true (lit< tt) (omega arith) c.index-ins-i-in-loop-i-2.is)
 
 pub mix_band-temp-requires-clause-second_flow : goal.mix_band-temp-requires-clause-second_flow
 mix_band-temp-requires-clause-second_flow c =
-    flow-inside _ (channel-inside c.args.self.now.inputs c.loop-i.i 0 (3 * c.loop-i.i) c.args.ins.now _ c.requires.inputs
+    flow-inside _ (channel-inside c.args.self.now.inputs c.loop-i.i 0
+    (3 * c.loop-i.i) c.args.ins.now _ c.requires.inputs
     c.loop-i-test.true (lit< tt) (omega arith) c.index-ins-i.is)
 
 pub add_band-flow-requires-clause-right : goal.add_band-flow-requires-clause-right
