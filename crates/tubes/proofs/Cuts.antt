@@ -1,0 +1,134 @@
+-- Bands tick by tick in one list, and the same cut into ticks.
+use Rattle.std.proofs.Common.{◌≡◌, ℕ, zero, suc, ◌+◌, ◌*◌, ◌<◌, ◌≤◌, List, [], ◌∷◌, ◌++◌, length, map, take, drop, replicate, slice_index_or, refl, sym, subst, ap, ◌∙◌, arith, true, false}
+use Rattle.std.specs.Prelude.{◌&&◌, slice_set, pos, Bool, int_le}
+use Rattle.std.specs.List.{sum_by}
+use Rattle.std.proofs.lemmas.List.{length-append, drop-drop, length-drop, length-take-le, take-append-le, drop-append-le}
+use Rattle.std.proofs.Math.Seq.{take-length}
+use Rattle.std.proofs.lemmas.List.Sums.{sum_by-cons, sum_by-take-drop}
+use Rattle.quant.proofs.Calls.{same_cons}
+use Rattle.quant.specs.Interval.{Interval, AllBands, IsBand, point}
+use Rattle.relaxation.specs.Tube.{Tube, at, all_inside, is_within, meet_bands, meet, HasNumbers, width}
+use Rattle.tubes.specs.Cut.{cut}
+use Rattle.tubes.specs.Flat.{nth, reach}
+
+-- what is left after the first of n + 1 ticks, and that tick
+dropped : (n c : ℕ) (xs : List Interval) → length xs ≡ suc n * c → length (drop c xs) ≡ n * c
+dropped n c xs e = rw (length-drop c xs) (rw e (omega arith))
+
+taken : (n c : ℕ) (xs : List Interval) → length xs ≡ suc n * c → length (take c xs) ≡ c
+taken n c xs e = length-take-le c xs (rw e (omega arith))
+
+-- there are n ticks
+pub cut_counted : (n c : ℕ) (xs : List Interval) → length (cut n c xs) ≡ n
+cut_counted zero c xs = refl
+cut_counted (suc n) c xs = ap suc (cut_counted n c (drop c xs))
+
+-- the first c of the meets are the meets of the first c, and so for those after
+take-meet : (c : ℕ) (xs ys : List Interval) → take c (meet_bands xs ys) ≡ meet_bands (take c xs) (take c ys)
+take-meet zero xs ys = refl
+take-meet (suc c) [] ys = refl
+take-meet (suc c) (x ∷ xs) [] = refl
+take-meet (suc c) (x ∷ xs) (y ∷ ys) = ap (λ (zs : List Interval). nth (meet_bands (x ∷ []) (y ∷ [])) 0 ∷ zs) (take-meet c xs ys)
+
+meet-nothing : (xs : List Interval) → meet_bands xs [] ≡ []
+meet-nothing [] = refl
+meet-nothing (x ∷ xs) = refl
+
+drop-meet : (c : ℕ) (xs ys : List Interval) → drop c (meet_bands xs ys) ≡ meet_bands (drop c xs) (drop c ys)
+drop-meet zero xs ys = refl
+drop-meet (suc c) [] ys = refl
+drop-meet (suc c) (x ∷ xs) [] = sym (meet-nothing (drop c xs))
+drop-meet (suc c) (x ∷ xs) (y ∷ ys) = drop-meet c xs ys
+
+pub cut_meet : (n c : ℕ) (xs ys : List Interval) → cut n c (meet_bands xs ys) ≡ meet (cut n c xs) (cut n c ys)
+cut_meet zero c xs ys = refl
+cut_meet (suc n) c xs ys =
+    same_cons _ _ _ _ (take-meet c xs ys) (ap (cut n c) (drop-meet c xs ys) ∙ cut_meet n c (drop c xs) (drop c ys))
+
+and-assoc : (a b c : Bool) → ((a && b) && c) ≡ (a && (b && c))
+and-assoc true b c = refl
+and-assoc false b c = refl
+
+-- so for the test of lying in one another
+inside-parts : (c : ℕ) (xs ys : List Interval) → length xs ≡ length ys →
+    all_inside xs ys ≡ (all_inside (take c xs) (take c ys) && all_inside (drop c xs) (drop c ys))
+inside-parts zero xs ys e = refl
+inside-parts (suc c) [] [] e = refl
+inside-parts (suc c) [] (y ∷ ys) e = cc
+inside-parts (suc c) (x ∷ xs) [] e = cc
+inside-parts (suc c) (x ∷ xs) (y ∷ ys) e =
+    ap (λ b. (int_le y.lo x.lo && int_le x.hi y.hi) && b) (inside-parts c xs ys (omega arith))
+    ∙ sym (and-assoc (int_le y.lo x.lo && int_le x.hi y.hi) _ _)
+
+pub cut_inside : (n c : ℕ) (xs ys : List Interval) → length xs ≡ n * c → length ys ≡ n * c →
+    is_within (cut n c xs) (cut n c ys) ≡ all_inside xs ys
+cut_inside zero c [] [] e d = refl
+cut_inside zero c [] (y ∷ ys) e d = absurd (omega arith)
+cut_inside zero c (x ∷ xs) ys e d = absurd (omega arith)
+cut_inside (suc n) c xs ys e d = sym (
+    inside-parts c xs ys (e ∙ sym d)
+    ∙ ap (λ b. all_inside (take c xs) (take c ys) && b)
+      (sym (cut_inside n c (drop c xs) (drop c ys) (dropped n c xs e) (dropped n c ys d))))
+
+-- bands stay bands
+take-bands : (c : ℕ) (xs : List Interval) → AllBands xs → AllBands (take c xs)
+take-bands zero xs h = tt
+take-bands (suc c) [] h = tt
+take-bands (suc c) (x ∷ xs) h = (h.0, take-bands c xs h.1)
+
+drop-bands : (c : ℕ) (xs : List Interval) → AllBands xs → AllBands (drop c xs)
+drop-bands zero xs h = h
+drop-bands (suc c) [] h = tt
+drop-bands (suc c) (x ∷ xs) h = drop-bands c xs h.1
+
+pub cut_numbers : (n c : ℕ) (xs : List Interval) → AllBands xs → HasNumbers (cut n c xs)
+cut_numbers zero c xs h = tt
+cut_numbers (suc n) c xs h = (take-bands c xs h, cut_numbers n c (drop c xs) (drop-bands c xs h))
+
+-- the ticks' parts of the list
+pub cut_at : (n c t : ℕ) (xs : List Interval) → t < n → at (cut n c xs) t ≡ take c (drop (t * c) xs)
+cut_at zero c t xs h = absurd (omega arith)
+cut_at (suc n) c zero xs h = let e : 0 ≡ 0 * c = omega arith in ap (λ k. take c (drop k xs)) e
+cut_at (suc n) c (suc t) xs h = 
+    let e : c + t * c ≡ suc t * c = omega arith in
+    cut_at n c t (drop c xs) (omega arith) ∙ (ap (take c) (drop-drop (t * c) c xs) ∙ ap (λ k. take c (drop k xs)) e)
+
+-- each tick has c bands
+pub cut_shape : (n c : ℕ) (xs : List Interval) → length xs ≡ n * c → map length (cut n c xs) ≡ replicate n c
+cut_shape zero c xs e = refl
+cut_shape (suc n) c xs e = same_cons _ _ _ _ (taken n c xs e) (cut_shape n c (drop c xs) (dropped n c xs e))
+
+-- the sums over the ticks are the sum over the list
+pub cut_width : (n c : ℕ) (xs : List Interval) → length xs ≡ n * c → width (cut n c xs) ≡ sum_by reach xs
+cut_width zero c [] e = refl
+cut_width zero c (x ∷ xs) e = absurd (omega arith)
+cut_width (suc n) c xs e =
+    sum_by-cons _ (take c xs) (cut n c (drop c xs))
+    ∙ (ap (λ k. sum_by reach (take c xs) + k) (cut_width n c (drop c xs) (dropped n c xs e))
+    ∙ sum_by-take-drop reach xs c)
+
+take-whole : (c : ℕ) (ys : List Interval) → length ys ≡ c → take c ys ≡ ys
+take-whole c ys d = subst (λ k. take k ys ≡ ys) d (take-length ys)
+
+-- one more tick after n
+pub cut_more : (n c : ℕ) (xs ys : List Interval) → length xs ≡ n * c → length ys ≡ c →
+    cut (suc n) c (xs ++ ys) ≡ cut n c xs ++ ys ∷ []
+cut_more zero c [] ys e d = same_cons _ _ _ _ (take-whole c ys d) refl
+cut_more zero c (x ∷ xs) ys e d = absurd (omega arith)
+cut_more (suc n) c xs ys e d =
+    same_cons _ _ _ _
+    (take-append-le c xs ys (rw e (omega arith)))
+    (ap (cut (suc n) c) (drop-append-le c xs ys (rw e (omega arith))) ∙ cut_more n c (drop c xs) ys (dropped n c xs e) d)
+
+pub replicate_more : (n : ℕ) (xs : List Interval) → replicate (suc n) xs ≡ replicate n xs ++ xs ∷ []
+replicate_more zero xs = refl
+replicate_more (suc n) xs = ap (λ rest. xs ∷ rest) (replicate_more n xs)
+
+pub repeated_more : (xs ys zs : List Interval) (n : ℕ) →
+    (length ys ≡ n * length xs) × (cut n (length xs) ys ≡ replicate n xs) → zs ≡ ys ++ xs →
+    (length zs ≡ (n + 1) * length xs) × (cut (n + 1) (length xs) zs ≡ replicate (n + 1) xs)
+repeated_more xs ys zs n h e =
+    let after : n + 1 ≡ suc n = omega arith in (
+    ap length e ∙ (length-append ys xs ∙ rw h.0 (omega arith)),
+    rw after (ap (cut (suc n) (length xs)) e
+    ∙ (cut_more n (length xs) ys xs h.0 refl ∙ (ap (λ As. As ++ xs ∷ []) h.1 ∙ sym (replicate_more n xs)))))

@@ -1,0 +1,5 @@
+pub mod Flats
+pub mod Cuts
+pub mod Places
+pub mod Shapes
+pub mod Meetings

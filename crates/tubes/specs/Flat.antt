@@ -1,0 +1,25 @@
+-- Words of the proofs: a reader of the contracts needs none of them.
+use Rattle.std.specs.Prelude.{◌≡◌, ℕ, ◌<◌, pos, ◌-ℤ◌, nat_abs, List, length, slice_index_or, Option, Some, None, Bool, int_le}
+use Rattle.std.specs.Int.{int_min, int_max}
+use Rattle.quant.specs.Interval.{Interval, AllBands, IsBand, point}
+use Rattle.relaxation.specs.Tube.{meet_bands}
+
+-- how much of the line a band covers
+abbrev pub reach : Interval → ℕ
+reach band = nat_abs (band.hi -ℤ band.lo)
+
+-- the numbers that two bands have in common, where there are any
+abbrev pub common : Interval → Interval → Interval
+common A B = record { lo = int_max A.lo B.lo; hi = int_min A.hi B.hi }
+
+abbrev pub has_number : Interval → Bool
+has_number A = int_le A.lo A.hi
+
+abbrev pub nth : List Interval → ℕ → Interval
+nth bands i = slice_index_or bands i (point (pos 0))
+
+-- the first place at which the meet of two lists has no number, or none
+abbrev pub IsFirstApart : Option ℕ → List Interval → List Interval → Type 0
+IsFirstApart None As Bs = AllBands (meet_bands As Bs)
+IsFirstApart (Some i) As Bs =
+    (i < length As) × (IsBand (nth (meet_bands As Bs) i) → ⊥) × ((j : ℕ) → j < i → IsBand (nth (meet_bands As Bs) j))

@@ -1,0 +1,4 @@
+pub mod Cut
+pub mod Flat
+pub mod Shape
+pub mod Meeting

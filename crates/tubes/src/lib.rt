@@ -1,0 +1,7 @@
+//! Tubes: for each tick of a window the bands of a stream's channels, and the meet of one tube with another.
+#![tactic(auto)]
+
+mod flat;
+mod tube;
+
+pub use tube::{Met, Tube};
