@@ -1,15 +1,15 @@
 -- Bands tick by tick in one list, and the same cut into ticks.
-use Rattle.std.proofs.Common.{◌≡◌, ℕ, zero, suc, ◌+◌, ◌*◌, ◌<◌, ◌≤◌, List, [], ◌∷◌, ◌++◌, length, map, take, drop, replicate, slice_index_or, refl, sym, subst, ap, ◌∙◌, arith, true, false}
-use Rattle.std.specs.Prelude.{◌&&◌, slice_set, pos, Bool, int_le}
+use Rattle.std.proofs.Common.{◌≡◌, ℕ, zero, suc, ◌+◌, ◌*◌, ◌<◌, ◌≤◌, List, [], ◌∷◌, ◌++◌, length, map, take, drop, replicate, refl, sym, subst, ap, ◌∙◌, arith, true, false}
+use Rattle.std.specs.Prelude.{◌&&◌, slice_set, Bool, int_le}
 use Rattle.std.specs.List.{sum_by}
 use Rattle.std.proofs.lemmas.List.{length-append, drop-drop, length-drop, length-take-le, take-append-le, drop-append-le}
-use Rattle.std.proofs.Math.Seq.{take-length}
+use Rattle.std.proofs.Math.Seq.{take-length, take-append_seam, drop-append_seam}
 use Rattle.std.proofs.lemmas.List.Sums.{sum_by-cons, sum_by-take-drop}
 use Rattle.quant.proofs.Calls.{same_cons}
-use Rattle.quant.specs.Interval.{Interval, AllBands, IsBand, point}
-use Rattle.relaxation.specs.Tube.{Tube, at, all_inside, is_within, meet_bands, meet, HasNumbers, width}
+use Rattle.quant.specs.Interval.{Interval, AllBands}
+use Rattle.relaxation.specs.Tube.{at, all_inside, is_within, meet_bands, meet, HasNumbers, width}
 use Rattle.tubes.specs.Cut.{cut}
-use Rattle.tubes.specs.Flat.{nth, reach}
+use Rattle.tubes.specs.Flat.{nth, reach, written}
 
 -- what is left after the first of n + 1 ticks, and that tick
 dropped : (n c : ℕ) (xs : List Interval) → length xs ≡ suc n * c → length (drop c xs) ≡ n * c
@@ -68,7 +68,7 @@ cut_inside zero c (x ∷ xs) ys e d = absurd (omega arith)
 cut_inside (suc n) c xs ys e d = sym (
     inside-parts c xs ys (e ∙ sym d)
     ∙ ap (λ b. all_inside (take c xs) (take c ys) && b)
-      (sym (cut_inside n c (drop c xs) (drop c ys) (dropped n c xs e) (dropped n c ys d))))
+    (sym (cut_inside n c (drop c xs) (drop c ys) (dropped n c xs e) (dropped n c ys d))))
 
 -- bands stay bands
 take-bands : (c : ℕ) (xs : List Interval) → AllBands xs → AllBands (take c xs)
@@ -89,7 +89,7 @@ cut_numbers (suc n) c xs h = (take-bands c xs h, cut_numbers n c (drop c xs) (dr
 pub cut_at : (n c t : ℕ) (xs : List Interval) → t < n → at (cut n c xs) t ≡ take c (drop (t * c) xs)
 cut_at zero c t xs h = absurd (omega arith)
 cut_at (suc n) c zero xs h = let e : 0 ≡ 0 * c = omega arith in ap (λ k. take c (drop k xs)) e
-cut_at (suc n) c (suc t) xs h = 
+cut_at (suc n) c (suc t) xs h =
     let e : c + t * c ≡ suc t * c = omega arith in
     cut_at n c t (drop c xs) (omega arith) ∙ (ap (take c) (drop-drop (t * c) c xs) ∙ ap (λ k. take c (drop k xs)) e)
 
@@ -129,6 +129,38 @@ pub repeated_more : (xs ys zs : List Interval) (n : ℕ) →
     (length zs ≡ (n + 1) * length xs) × (cut (n + 1) (length xs) zs ≡ replicate (n + 1) xs)
 repeated_more xs ys zs n h e =
     let after : n + 1 ≡ suc n = omega arith in (
-    ap length e ∙ (length-append ys xs ∙ rw h.0 (omega arith)),
-    rw after (ap (cut (suc n) (length xs)) e
-    ∙ (cut_more n (length xs) ys xs h.0 refl ∙ (ap (λ As. As ++ xs ∷ []) h.1 ∙ sym (replicate_more n xs)))))
+      ap length e ∙ (length-append ys xs ∙ rw h.0 (omega arith)),
+      rw after (ap (cut (suc n) (length xs)) e
+          ∙ (cut_more n (length xs) ys xs h.0 refl ∙ (ap (λ As. As ++ xs ∷ []) h.1 ∙ sym (replicate_more n xs)))),
+    )
+
+same-first : (n c : ℕ) (row rest : List Interval) → length row ≡ c → cut (suc n) c (row ++ rest) ≡ row ∷ cut n c rest
+same-first n c row rest e =
+    rw (sym e) (same_cons _ _ _ _ (take-append_seam row rest) (ap (cut n (length row)) (drop-append_seam row rest)))
+
+-- what is written later leaves the first tick, and is written as much earlier in the rest
+take-first : (c k j : ℕ) (xs row : List Interval) → j ≡ c + k → c ≤ length xs → take c (written xs j row) ≡ take c xs
+take-first zero k j xs row e h = refl
+take-first (suc c) k zero xs row e h = absurd (omega arith)
+take-first (suc c) k (suc j) [] row e h = absurd (omega arith)
+take-first (suc c) k (suc j) (x ∷ xs) row e h = ap (λ ys. x ∷ ys) (take-first c k j xs row (omega arith) (omega arith))
+
+drop-first : (c k j : ℕ) (xs row : List Interval) → j ≡ c + k → c ≤ length xs → drop c (written xs j row) ≡ written (drop c xs) k row
+drop-first zero k j xs row e h = (let same : j ≡ k = omega arith in ap (λ i. written xs i row) same)
+drop-first (suc c) k zero xs row e h = absurd (omega arith)
+drop-first (suc c) k (suc j) [] row e h = absurd (omega arith)
+drop-first (suc c) k (suc j) (x ∷ xs) row e h = drop-first c k j xs row (omega arith) (omega arith)
+
+-- the list with other bands at a tick is the tube with them
+pub cut_written : (n c t : ℕ) (xs row : List Interval) → t < n → length row ≡ c → length xs ≡ n * c →
+    cut n c (written xs (t * c) row) ≡ slice_set (cut n c xs) t row
+cut_written zero c t xs row h e s = absurd (omega arith)
+cut_written (suc n) c zero xs row h e s =
+    let start : 0 * c ≡ 0 = omega arith in
+    rw start (same-first n c row (drop (length row) xs) e ∙ ap (λ k. row ∷ cut n c (drop k xs)) e)
+cut_written (suc n) c (suc t) xs row h e s =
+    let start : suc t * c ≡ c + t * c = omega arith in
+    let room : c ≤ length xs = rw s (omega arith) in
+    same_cons _ _ _ _ (take-first c (t * c) (suc t * c) xs row start room)
+    (ap (cut n c) (drop-first c (t * c) (suc t * c) xs row start room)
+    ∙ cut_written n c t (drop c xs) row (omega arith) e (dropped n c xs s))

@@ -1,12 +1,13 @@
 -- Loops over bands tick by tick: what is left of them, or what was done.
-use Rattle.std.proofs.Common.{◌≡◌, ℕ, zero, suc, ◌+◌, ◌*◌, ◌<◌, ◌≤◌, List, [], ◌∷◌, ◌++◌, length, take, drop, refl, sym, ap, ◌∙◌, subst, slice_index_or, arith, true, false, inl, inr}
+use Rattle.std.proofs.Common.{◌≡◌, ℕ, zero, suc, ◌+◌, ◌-◌, ◌<◌, ◌≤◌, List, [], ◌∷◌, ◌++◌, length, take, drop, refl, sym, ap, ◌∙◌, subst, slice_index_or, arith, true, false, inl, inr}
 use Rattle.std.proofs.lemmas.Bool.{cases_lt}
 use Rattle.std.proofs.lemmas.Int.{ints}
-use Rattle.std.proofs.lemmas.List.{get_or_default}
+use Rattle.std.proofs.lemmas.List.{get_or_default, length-append, length-drop}
+use Rattle.std.proofs.Math.Seq.{take-append_seam}
 use Rattle.std.specs.Prelude.{◌&&◌, int_le, slice_set}
 use Rattle.quant.specs.Interval.{Interval, IsBand, AllBands}
 use Rattle.relaxation.specs.Tube.{all_inside, meet_bands}
-use Rattle.tubes.specs.Flat.{common, has_number, nth}
+use Rattle.tubes.specs.Flat.{common, has_number, nth, written}
 
 -- the band at a place decides, and then those after it
 pub inside_left : (As Bs : List Interval) (i : ℕ) → i < length As → length As ≡ length Bs →
@@ -63,7 +64,7 @@ band_has A b = grind (arith, ints)
 -- one more place that has a number
 pub one_more : (P : ℕ → Type 0) (i : ℕ) → ((j : ℕ) → j < i → P j) → P i → (j : ℕ) → j < i + 1 → P j
 one_more P i h p j k = elim (cases_lt j i) [
-  inl lt ↦ h j lt
+  | inl lt ↦ h j lt
   | inr ge ↦ (let e : i ≡ j = omega arith in subst P e p)
 ]
 
@@ -134,3 +135,18 @@ pub partly_done : (As Bs Cs : List Interval) (i : ℕ) → length As ≡ length 
 partly_done As Bs Cs i e h k p =
     let whole : i ≡ length Bs = omega arith in
     p ∙ (ap (λ j. partly j As Bs) whole ∙ partly-done As Bs e)
+
+-- a list of as many bands takes the place of a list
+pub refilled : (xs ws : List Interval) (k : ℕ) → k ≡ length xs → length ws ≡ length xs → take k (ws ++ drop (length ws) xs) ≡ ws
+refilled xs ws k e l =
+    let whole : k ≡ length ws = omega arith in
+    ap (λ j. take j (ws ++ drop (length ws) xs)) whole ∙ take-append_seam ws (drop (length ws) xs)
+
+-- and writing leaves as many
+pub written_counted : (xs row : List Interval) (k : ℕ) → k + length row ≤ length xs → length (written xs k row) ≡ length xs
+written_counted xs row zero h =
+    let after : length (drop (length row) xs) ≡ length xs - length row = length-drop (length row) xs in
+    let whole : length (row ++ drop (length row) xs) ≡ length row + length (drop (length row) xs) = length-append row (drop (length row) xs) in
+    omega arith
+written_counted [] row (suc k) h = absurd (omega arith)
+written_counted (x ∷ xs) row (suc k) h = ap suc (written_counted xs row k (omega arith))

@@ -1,5 +1,5 @@
 -- The first place without a common number, found in the lists that two tubes are kept as.
-use Rattle.std.proofs.Common.{◌≡◌, ℕ, zero, suc, ◌+◌, ◌*◌, ◌/◌, ◌%◌, ◌<◌, ◌≤◌, ℤ, slice_index_or, Some, List, [], ◌∷◌, ◌++◌, length, take, drop, pos, refl, sym, subst, ap, ◌∙◌, arith, inl, inr}
+use Rattle.std.proofs.Common.{◌≡◌, ℕ, suc, ◌+◌, ◌*◌, ◌/◌, ◌%◌, ◌<◌, ◌≤◌, slice_index_or, Some, List, [], length, sym, subst, ap, ◌∙◌, arith, inl, inr}
 use Rattle.std.proofs.lemmas.Int.{ints, clamps}
 use Rattle.std.proofs.Math.Nat.{mul-le-mul_right, div-lt_iff_lt-mul, mod-lt}
 use Rattle.std.proofs.lemmas.Nat.{div-add-mod'}
@@ -8,34 +8,28 @@ use Rattle.std.specs.Prelude.{◌≤ℤ◌}
 use Rattle.std.proofs.lemmas.List.{length-map}
 use Rattle.std.proofs.Math.ListN.{get_or-map}
 use Rattle.std.proofs.lemmas.Bool.{cases_lt}
-use Rattle.quant.specs.Interval.{Interval, IsBand, Holds}
+use Rattle.quant.specs.Interval.{Interval, IsBand}
 use Rattle.relaxation.specs.Tube.{Tube, at, meet_bands}
 use Rattle.tubes.specs.Cut.{cut}
 use Rattle.tubes.specs.Flat.{common, nth}
 use Rattle.tubes.specs.Shape.{HasShapeOf, band_at}
 use Rattle.tubes.specs.Meeting.{HasCommon, IsEarlier, IsFirstEmpty}
 use Rattle.tubes.specs.Flat.{IsFirstApart}
-use Rattle.std.proofs.Math.Seq.{take-append_seam}
-use Rattle.tubes.proofs.Flats.{meet_at, meet_counted}
+use Rattle.tubes.proofs.Flats.{meet_at}
 use Rattle.tubes.proofs.Cuts.{cut_counted}
-use Rattle.tubes.proofs.Places.{row_length, channel_there, tick_there, place_there, place_is}
-use Rattle.tubes.proofs.Shapes.{as_long, as_other, as_many}
+use Rattle.tubes.proofs.Places.{row_length, channel_there, place_there, place_is}
+use Rattle.tubes.proofs.Shapes.{as_long, as_other}
 
 -- bands have a number in common where their meet has one
 pub common-has : (A B : Interval) → IsBand (common A B) → HasCommon A B
-common-has A B m = (int_max A.lo B.lo,
-    record { above = omega (arith, ints, clamps); below = (let le : int_max A.lo B.lo ≤ℤ int_min A.hi B.hi = m.ordered in omega (arith, ints, clamps)) },
-    record { above = omega (arith, ints, clamps); below = (let le : int_max A.lo B.lo ≤ℤ int_min A.hi B.hi = m.ordered in omega (arith, ints, clamps)) })
+common-has A B m = (
+  int_max A.lo B.lo,
+  record { above = omega (arith, ints, clamps); below = (let le : int_max A.lo B.lo ≤ℤ int_min A.hi B.hi = m.ordered in omega (arith, ints, clamps)) },
+  record { above = omega (arith, ints, clamps); below = (let le : int_max A.lo B.lo ≤ℤ int_min A.hi B.hi = m.ordered in omega (arith, ints, clamps)) },
+)
 
 pub has-common : (A B : Interval) → HasCommon A B → IsBand (common A B)
 has-common A B (z, a, b) = record { ordered = omega (arith, ints, clamps) }
-
--- a list of as many bands takes the place of a list
-pub refilled : (xs ys ws : List Interval) (k : ℕ) → k ≡ length xs → length xs ≡ length ys → ws ≡ meet_bands xs ys →
-    take k (ws ++ drop (length ws) xs) ≡ meet_bands xs ys
-refilled xs ys ws k e l w =
-    let whole : k ≡ length ws = e ∙ sym (ap length w ∙ meet_counted xs ys l) in
-    ap (λ j. take j (ws ++ drop (length ws) xs)) whole ∙ (take-append_seam ws (drop (length ws) xs) ∙ w)
 
 -- a place by its tick and its channel
 no-place : (c i n : ℕ) → c ≡ 0 → i < n * c → ⊥
@@ -43,13 +37,13 @@ no-place c i n e h = (let nothing : n * c ≡ 0 = rw e (omega arith) in omega ar
 
 below : (c i n : ℕ) → i < n * c → i / c < n
 below c i n h = elim (cases_lt 0 c) [
-  inl some ↦ (div-lt_iff_lt-mul some).1 h
+  | inl some ↦ (div-lt_iff_lt-mul some).1 h
   | inr none ↦ (let nothing : c ≡ 0 = omega arith in absurd (no-place c i n nothing h))
 ]
 
 channel-below : (c i n : ℕ) → i < n * c → i % c < c
 channel-below c i n h = elim (cases_lt 0 c) [
-  inl some ↦ mod-lt i some
+  | inl some ↦ mod-lt i some
   | inr none ↦ (let nothing : c ≡ 0 = omega arith in absurd (no-place c i n nothing h))
 ]
 
@@ -86,12 +80,14 @@ module _ (n c m d : ℕ) (xs ys : List Interval) (A B : Tube) (a : cut n c xs �
     channel = channel;
     empty = λ common. found.1 (subst IsBand (sym (at-place (i / c) (i % c) tick channel) ∙ ap (nth (meet_bands xs ys)) (div-add-mod' i c)) (has-common _ _ common));
     first = λ s d k l before. common-has _ _ (subst IsBand (at-place s d k l) (found.2 (s * c + d)
-      (subst (λ j. s * c + d < j) (div-add-mod' i c) (earlier c s d (i / c) (i % c) (channel_there n c xs A a size s k d l) before))));
+        (subst (λ j. s * c + d < j) (div-add-mod' i c) (earlier c s d (i / c) (i % c) (channel_there n c xs A a size s k d l) before))));
   }
     where
-    inside : i < n * c
-    inside = subst (λ k. i < k) size found.0
-    tick : i / c < length A
-    tick = subst (λ k. i / c < k) (sym (sym (ap length a) ∙ cut_counted n c xs)) (below c i n inside)
-    channel : i % c < length (at A (i / c))
-    channel = subst (λ k. i % c < k) (sym (row_length n c xs A a size (i / c) tick)) (channel-below c i n inside)
+      inside : i < n * c
+      inside = subst (λ k. i < k) size found.0
+
+      tick : i / c < length A
+      tick = subst (λ k. i / c < k) (sym (sym (ap length a) ∙ cut_counted n c xs)) (below c i n inside)
+
+      channel : i % c < length (at A (i / c))
+      channel = subst (λ k. i % c < k) (sym (row_length n c xs A a size (i / c) tick)) (channel-below c i n inside)

@@ -1,5 +1,5 @@
 -- The places of a tube, and where they stand in the list that it is kept as.
-use Rattle.std.proofs.Common.{◌≡◌, ℕ, zero, suc, ◌+◌, ◌*◌, ◌<◌, ◌≤◌, List, [], ◌∷◌, length, take, drop, slice_index_or, pos, refl, sym, subst, ap, ◌∙◌, arith}
+use Rattle.std.proofs.Common.{◌≡◌, ℕ, zero, suc, ◌+◌, ◌*◌, ◌<◌, ◌≤◌, List, length, take, drop, slice_index_or, pos, sym, subst, ap, ◌∙◌, arith}
 use Rattle.std.specs.Prelude.{slice_set}
 use Rattle.std.proofs.Math.Nat.{mul-le-mul_right}
 use Rattle.std.proofs.Math.Seq.{take-set-lt}
@@ -25,7 +25,7 @@ cut_set (suc n) c zero d xs b h k =
 cut_set (suc n) c (suc t) d xs b h k =
     let e : suc t * c + d ≡ c + (t * c + d) = omega arith in
     rw e (same_cons _ _ _ _ (take-set-le c xs (c + (t * c + d)) b (omega arith))
-      (ap (cut n c) (drop-set-add c xs (t * c + d) b) ∙ cut_set n c t d (drop c xs) b (omega arith) k))
+    (ap (cut n c) (drop-set-add c xs (t * c + d) b) ∙ cut_set n c t d (drop c xs) b (omega arith) k))
 
 -- a tube that is kept as a list
 module _ (n c : ℕ) (xs : List Interval) (A : Tube) (kept : cut n c xs ≡ A) (size : length xs ≡ n * c) (t : ℕ) (h : t < length A) where

@@ -1,5 +1,5 @@
 -- Two tubes of one shape, by the lists that they are kept as.
-use Rattle.std.proofs.Common.{◌≡◌, ◌↔◌, ℕ, zero, suc, ◌+◌, ◌*◌, ◌/◌, ◌<◌, ◌≤◌, List, [], ◌∷◌, length, map, replicate, slice_index_or, refl, sym, subst, ap, ◌∙◌, arith, true, nat_eq, ◌≢◌}
+use Rattle.std.proofs.Common.{◌≡◌, ◌↔◌, ℕ, zero, suc, ◌*◌, ◌/◌, ◌<◌, List, length, map, replicate, slice_index_or, refl, sym, subst, ap, ◌∙◌, arith, true, nat_eq, ◌≢◌}
 use Rattle.std.proofs.Math.Nat.{mul-div_cancel_left}
 use Rattle.std.proofs.lemmas.List.{length-replicate}
 use Rattle.quant.specs.Interval.{Interval, AllBands}
@@ -82,7 +82,8 @@ module _ (n c m d : ℕ) (xs ys : List Interval) (A B : Tube) (a : cut n c xs �
   pub fits_is : (k l : ℕ) → k ≡ length xs → l ≡ length ys → n ≡ m → (nat_eq k l ≡ true) ↔ HasShapeOf A B
   fits_is k l f g e = (
     (λ same. has_shape e (sym f ∙ (eqb-yes k l same ∙ g))),
-    (λ h. eqb-same k l (f ∙ (as_long h ∙ sym g))))
+    (λ h. eqb-same k l (f ∙ (as_long h ∙ sym g))),
+  )
 
   pub fits_not : (n ≢ m) → (nat_eq n m ≡ true) ↔ HasShapeOf A B
   fits_not apart = ((λ same. absurd (apart (eqb-yes n m same))), (λ h. absurd (apart (as_many h))))

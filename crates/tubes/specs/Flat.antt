@@ -1,5 +1,5 @@
 -- Words of the proofs: a reader of the contracts needs none of them.
-use Rattle.std.specs.Prelude.{◌≡◌, ℕ, ◌<◌, pos, ◌-ℤ◌, nat_abs, List, length, slice_index_or, Option, Some, None, Bool, int_le}
+use Rattle.std.specs.Prelude.{ℕ, ◌<◌, pos, ◌-ℤ◌, nat_abs, List, ◌++◌, length, take, drop, slice_index_or, Option, Some, None, Bool, int_le}
 use Rattle.std.specs.Int.{int_min, int_max}
 use Rattle.quant.specs.Interval.{Interval, AllBands, IsBand, point}
 use Rattle.relaxation.specs.Tube.{meet_bands}
@@ -17,6 +17,10 @@ has_number A = int_le A.lo A.hi
 
 abbrev pub nth : List Interval → ℕ → Interval
 nth bands i = slice_index_or bands i (point (pos 0))
+
+-- the list with other bands from a place on
+abbrev pub written : List Interval → ℕ → List Interval → List Interval
+written bands start row = take start bands ++ (row ++ drop (length row) (drop start bands))
 
 -- the first place at which the meet of two lists has no number, or none
 abbrev pub IsFirstApart : Option ℕ → List Interval → List Interval → Type 0

@@ -1,5 +1,5 @@
 -- What meeting a tube with another answers, and what it leaves.
-use Rattle.std.specs.Prelude.{◌≡◌, ◌⊎◌, ℕ, ◌<◌, ℤ, Bool, true, false, length}
+use Rattle.std.specs.Prelude.{◌≡◌, ◌⊎◌, ℕ, ◌<◌, ℤ, true, false, length}
 use Rattle.quant.specs.Interval.{Interval, Holds}
 use Rattle.relaxation.specs.Tube.{Tube, at, is_within, HasNumbers, meet}
 use Rattle.tubes.specs.Shape.{band_at}

@@ -1,5 +1,5 @@
 -- The shape of a tube, and its places.
-use Rattle.std.specs.Prelude.{◌≡◌, ℕ, pos, List, length, map, slice_index_or, slice_set}
+use Rattle.std.specs.Prelude.{◌≡◌, ℕ, pos, length, map, slice_index_or, slice_set}
 use Rattle.quant.specs.Interval.{Interval, point}
 use Rattle.relaxation.specs.Tube.{Tube, at}
 

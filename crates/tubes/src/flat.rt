@@ -5,7 +5,7 @@ ghost use Rattle.std.specs.List.{sum_by};
 ghost use Rattle.quant.specs.Interval.{Interval, AllBands, IsBand, point};
 ghost use Rattle.relaxation.specs.Tube.{all_inside, meet_bands};
 ghost use Rattle.tubes.specs.Cut.{cut};
-ghost use Rattle.tubes.specs.Flat.{IsFirstApart, common, has_number, nth, reach};
+ghost use Rattle.tubes.specs.Flat.{IsFirstApart, common, has_number, nth, reach, written};
 
 use quant::Band;
 use std::alloc::{AllocError, Global};
@@ -36,6 +36,14 @@ pub(crate) fn row(bands: &[Band], start: usize, channels: u32) -> &[Band]
     ensures { result.now ≡ take channels (drop start bands.now) }
 {
     &bands[start..start + channels as usize]
+}
+
+/// Puts other bands in the place of as many.
+pub(crate) fn write(bands: &mut [Band], start: usize, row: &[Band])
+    requires { start + length row.now ≤ length bands.old }
+    ensures { bands.new ≡ written bands.old start row.now }
+{
+    bands[start..start + row.len()].copy_from_slice(row);
 }
 
 /// The band at a place.

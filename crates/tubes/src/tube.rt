@@ -35,7 +35,7 @@ impl Model for Tube {
 }
 
 impl Tube {
-    ghost use Rattle.std.specs.Prelude.{◌≡◌, ◌↔◌, ◌<◌, ◌^◌, true, length, replicate, IfOk};
+    ghost use Rattle.std.specs.Prelude.{◌≡◌, ◌↔◌, ◌<◌, ◌^◌, true, length, replicate, slice_set, IfOk};
     ghost use Rattle.relaxation.specs.Tube.{at, is_within, width};
     ghost use Rattle.tubes.specs.Shape.{HasShapeOf, band_at, set_at};
     ghost use Rattle.tubes.specs.Meeting.{Meets};
@@ -107,7 +107,10 @@ impl Tube {
         requires channel { channel < length (at self.now tick) }
         ensures { result ≡ band_at self.now tick channel }
     {
-        flat::band(self.bands.as_slice(), flat::place(tick, self.channels, channel))
+        flat::band(
+            self.bands.as_slice(),
+            flat::place(tick, self.channels, channel),
+        )
     }
 
     /// Puts another band in one place.
@@ -125,6 +128,38 @@ impl Tube {
         requires { tick < length self.now }
         ensures { result.now ≡ at self.now tick }
     {
-        flat::row(self.bands.as_slice(), flat::place(tick, self.channels, 0), self.channels)
+        flat::row(
+            self.bands.as_slice(),
+            flat::place(tick, self.channels, 0),
+            self.channels,
+        )
+    }
+
+    /// Puts other bands in the place of those of all channels at a tick.
+    pub fn write(&mut self, tick: u32, bands: &[Band])
+        requires tick { tick < length self.old }
+        requires channels { length bands.now ≡ length (at self.old tick) }
+        ensures { self.new ≡ slice_set self.old tick bands.now }
+    {
+        let start = flat::place(tick, self.channels, 0);
+        flat::write(self.bands.as_mut_slice(), start, bands);
+    }
+
+    /// Another tube with the same bands.
+    pub fn copied(&self, alloc: Global) -> Result<Self, AllocError>
+        ensures { IfOk result (λ tube. tube ≡ self.now) }
+    {
+        Ok(Tube {
+            ticks: self.ticks,
+            channels: self.channels,
+            bands: Vec::from_slice(alloc, self.bands.as_slice())?,
+        })
+    }
+
+    /// How many ticks it has.
+    pub fn ticks(&self) -> u32
+        ensures { result ≡ length self.now }
+    {
+        self.ticks
     }
 }

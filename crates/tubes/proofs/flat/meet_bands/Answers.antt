@@ -1,6 +1,3 @@
-use Rattle.std.proofs.Common.{◌<◌, ◌≡◌, subst, sym, ap, ◌∙◌, ℕ, length, slice_index_or, arith}
-use Rattle.quant.specs.Interval.{IsBand}
-use Rattle.relaxation.specs.Tube.{meet_bands}
 use Rattle.tubes.proofs.Flats.{partly_common, partly_next, partly_done}
 use Rattle.tubes.proofs.flat.meet_bands.Goals as goal
 

@@ -1,4 +1,3 @@
-use Rattle.std.proofs.Common.{◌≡◌, ap, ◌∙◌, sym, subst, length, arith}
 use Rattle.tubes.proofs.Cuts.{repeated_more}
 use Rattle.tubes.proofs.flat.repeated.Goals as goal
 

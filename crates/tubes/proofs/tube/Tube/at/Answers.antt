@@ -1,4 +1,4 @@
-use Rattle.std.proofs.Common.{sym, ap, subst, ◌∙◌, ◌<◌, length}
+use Rattle.std.proofs.Common.{ap, ◌∙◌}
 use Rattle.tubes.specs.Flat.{nth}
 use Rattle.tubes.proofs.Places.{place_there, place_is}
 use Rattle.tubes.proofs.tube.Tube.at.Goals as goal

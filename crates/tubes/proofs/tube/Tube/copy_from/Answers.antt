@@ -7,11 +7,11 @@ pub copy_from_slice-requires : goal.copy_from_slice-requires
 copy_from_slice-requires c =
     c.self.inside.bands.ok.0
     ∙ (as_long _ _ _ _ _ _ _ _ c.self.view_is c.other.view_is c.self.invariant c.other.invariant
-      c.requires.shape
+    c.requires.shape
     ∙ ap length (sym c.as_slice.ensures.value))
 
 pub returns : goal.returns
 returns c =
     ap (cut c.self.inside.ticks c.self.inside.channels) (c.copy_from_slice.ensures.items ∙ c.as_slice.ensures.value)
     ∙ as_other _ _ _ _ _ _ _ _ c.self.view_is c.other.view_is c.self.invariant c.other.invariant
-      c.requires.shape
+    c.requires.shape

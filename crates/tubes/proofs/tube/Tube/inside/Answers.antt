@@ -7,7 +7,7 @@ pub all_inside-requires : goal.all_inside-requires
 all_inside-requires c =
     ap length c.as_slice.ensures.value
     ∙ (as_long _ _ _ _ _ _ _ _ c.self.view_is c.other.view_is c.self.invariant c.other.invariant
-      c.requires.shape
+    c.requires.shape
     ∙ ap length (sym c.as_slice-2.ensures.value))
 
 pub returns : goal.returns
@@ -16,4 +16,4 @@ returns c =
     ∙ (ap (all_inside c.as_slice.result.now) c.as_slice-2.ensures.value
     ∙ (ap (λ bands. all_inside bands c.other.inside.bands.items) c.as_slice.ensures.value
     ∙ inside_is _ _ _ _ _ _ _ _ c.self.view_is c.other.view_is c.self.invariant c.other.invariant
-      c.requires.shape))
+    c.requires.shape))

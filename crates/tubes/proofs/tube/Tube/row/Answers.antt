@@ -1,4 +1,4 @@
-use Rattle.std.proofs.Common.{◌≡◌, ℕ, ◌+◌, ◌*◌, ap, ◌∙◌, take, drop, arith}
+use Rattle.std.proofs.Common.{◌≡◌, ℕ, ◌+◌, ap, ◌∙◌, take, drop, arith}
 use Rattle.tubes.proofs.Places.{row_fits, row_is}
 use Rattle.tubes.proofs.tube.Tube.row.Goals as goal
 
