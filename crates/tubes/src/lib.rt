@@ -3,6 +3,8 @@
 
 mod feed_tubes;
 mod flat;
+#[cfg(test)]
+mod tests;
 mod tube;
 
 pub use feed_tubes::FeedTubes;
