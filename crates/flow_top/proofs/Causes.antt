@@ -1,12 +1,11 @@
 -- The cause of each status, from how the work ended and what was said of it.
-use Rattle.std.proofs.Common.{◌≡◌, ◌⊎◌, inl, inr, refl, sym, ap, ◌∙◌, subst, ℕ, List, [], Option, Some, None, IfSome}
+use Rattle.std.proofs.Common.{◌≡◌, ◌⊎◌, inl, inr, refl, sym, ap, ◌∙◌, subst, ℕ, List, Option, Some, None, IfSome}
 use Rattle.std.proofs.Common.{Result, Ok, Err}
 use Rattle.flow_edge.specs.Faults.{Rose}
-use Rattle.flow_edge.specs.Sink.{Gives}
 use Rattle.flow_edge.specs.declared.status.Status.{Status}
 use Rattle.flow_edge.specs.declared.status.Status.TheVariants as status
-use Rattle.plant.specs.declared.fault.PlantFault.{PlantFault}
-use Rattle.plant.specs.declared.fault.PlantFault.TheVariants as part
+use Rattle.plant_checks.specs.declared.fault.PlantFault.{PlantFault}
+use Rattle.plant_checks.specs.declared.fault.PlantFault.TheVariants as part
 use Rattle.flow_file.specs.declared.fault.TextFault.{TextFault}
 use Rattle.flow_file.specs.declared.fault.TextFault.TheVariants as text
 use Rattle.parts.specs.Parts.{FileParts}
@@ -15,20 +14,20 @@ use Rattle.flow_top.specs.declared.words.Command.{Command}
 use Rattle.flow_top.specs.declared.words.Command.TheVariants.{Run, Check}
 use Rattle.flow_top.specs.declared.fault.Stop.{Stop}
 use Rattle.flow_top.specs.declared.fault.End.{End}
-use Rattle.flow_top.specs.declared.fault.End.TheVariants.{Stopped, NoMemory}
+use Rattle.flow_top.specs.declared.fault.End.TheVariants.{Stopped}
 use Rattle.flow_top.specs.declared.fault.TopFault.{TopFault}
 use Rattle.flow_top.specs.declared.fault.TopFault.TheVariants as top
 use Rattle.flow_top.specs.Words.{command_in}
 use Rattle.flow_top.specs.Faults.{fault_of_text, fault_of_plant, IsTextFault, own_status, status_of, stop_by}
 use Rattle.flow_top.specs.Faults as faults
 use Rattle.flow_top.specs.Judged.{Judgement, IsJudged, too_long, unreadable, unbuilt, built}
-use Rattle.flow_top.specs.Course.{Course, written, text_of}
+use Rattle.flow_top.specs.Course.{Course}
 use Rattle.flow_top.specs.Courses.{IsWork}
-use Rattle.flow_top.specs.Lines.{fault_line, constant_line, memory_line}
+use Rattle.flow_top.specs.Lines.{fault_line, constant_line}
 use Rattle.flow_top.specs.Uses.{SourceUse, SinkUse, IsUnwritten, WasGiven}
 use Rattle.flow_top.specs.Ended.{Ended, misread, asked, CommandEnded, WorkEnded, course_end, SaysParts, IsRefused, Stood}
 use Rattle.flow_top.specs.Ended as ended
-use Rattle.flow_top.specs.Stands.{Said, SaidLine, SaidMemory, SaidStop}
+use Rattle.flow_top.specs.Stands.{Said, SaidMemory, SaidStop}
 use Rattle.flow_top.specs.Causes.{IsEndOn, refusal, course, IsAtWork, WroteSome, WroteFront, WroteNoMore, SaysStop, Cause, AnswersOr, AnswersUnlessRead}
 use Rattle.flow_top.proofs.Judging.{judgement-unique}
 use Rattle.flow_top.proofs.Courses.{courses-agree, course-stops, work-exists}

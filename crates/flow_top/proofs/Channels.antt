@@ -9,13 +9,16 @@ use Rattle.flowsheet.proofs.Stages.{run-fed}
 use Rattle.flowsheet.proofs.Limits.{stream-limited}
 use Rattle.parts.specs.Parts.{FileParts}
 use Rattle.parts.specs.Given.{given_bands}
-use Rattle.plant.specs.declared.streams.Stream.{Stream}
-use Rattle.plant.specs.declared.streams.StreamSource.TheVariants as source
-use Rattle.plant.specs.declared.units.Unit.{Unit}
-use Rattle.plant.specs.Streams.{streams_of}
-use Rattle.plant.specs.Units.{units_of, sheet_unit, plant_of, carried_of, gives_of, output_limits_of, channel_limits, stream_limits, source_limits}
+use Rattle.plant_streams.specs.declared.streams.Stream.{Stream}
+use Rattle.plant_streams.specs.declared.streams.StreamSource.TheVariants as source
+use Rattle.plant_units.specs.declared.units.Unit.{Unit}
+use Rattle.plant_streams.specs.Streams.{streams_of}
+use Rattle.plant_units.specs.Units.{units_of, sheet_unit, gives_of}
+use Rattle.plant.specs.PlantOf.{plant_of, carried_of}
+use Rattle.plant_streams.specs.Limits.{channel_limits, stream_limits, source_limits}
 use Rattle.plant.specs.Rows.{streams_of_run}
-use Rattle.plant.specs.Sound.{limits_at, IsPlant, IsSource}
+use Rattle.plant_streams.specs.Limits.{limits_at}
+use Rattle.plant.specs.Sound.{IsPlant, IsSource}
 use Rattle.plant.proofs.Lookups.{from_feed, from_port, from, item, sound-at, unit-is, outputs-are, origin-is, streams-counted}
 use Rattle.plant.proofs.PlantLaws.{plant-sound, parts-ranked, parts-limited, parts-bands, parts-fed}
 use Rattle.report.specs.Output.{channels}

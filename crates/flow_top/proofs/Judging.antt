@@ -4,10 +4,10 @@ use Rattle.std.proofs.Common.{inl, inr}
 use Rattle.std.proofs.lemmas.Bool.{cases_lt}
 use Rattle.parts.specs.Parts.{FileParts}
 use Rattle.parts.specs.InRange.{AreInRange}
-use Rattle.plant.specs.Building.{Checked}
+use Rattle.plant_checks.specs.Checks.{Checked}
 use Rattle.plant.specs.Sound.{IsPlant}
 use Rattle.plant.specs.Verdict.{IsVerdict}
-use Rattle.plant.specs.declared.fault.PlantFault.{PlantFault}
+use Rattle.plant_checks.specs.declared.fault.PlantFault.{PlantFault}
 use Rattle.plant.proofs.PlantLaws.{verdict-unique}
 use Rattle.flow_file.specs.Plant.{parts_in}
 use Rattle.flow_file.specs.declared.fault.TextFault.{TextFault}

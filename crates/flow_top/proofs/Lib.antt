@@ -7,5 +7,4 @@ pub mod Causes
 pub mod PlantRows
 pub mod Channels
 pub mod RunRows
-pub mod RankRows
 pub mod StreamCount

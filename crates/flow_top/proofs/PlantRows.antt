@@ -5,8 +5,8 @@ use Rattle.std.specs.List.{range_with_len}
 use Rattle.std.proofs.lemmas.List.{length-map}
 use Rattle.quant.specs.Interval.{Interval}
 use Rattle.parts.specs.Parts.{FileParts}
-use Rattle.plant.specs.declared.streams.Stream.{Stream}
-use Rattle.plant.specs.Streams.{streams_of}
+use Rattle.plant_streams.specs.declared.streams.Stream.{Stream}
+use Rattle.plant_streams.specs.Streams.{streams_of}
 use Rattle.plant.specs.Rows.{streams_of_run}
 use Rattle.report.specs.Output.{Label, rows_of, rows_from, stream_rows, tick_rows}
 use Rattle.flow_top.specs.RunCourse.{labels_of}

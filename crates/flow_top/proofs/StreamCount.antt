@@ -6,7 +6,7 @@ use Rattle.parts.specs.declared.feeds.FeedPart.{FeedPart}
 use Rattle.parts.specs.declared.units.KindPart.{KindPart}
 use Rattle.parts.specs.declared.units.KindPart.TheVariants as part
 use Rattle.parts.specs.declared.units.UnitPart.{UnitPart}
-use Rattle.plant.specs.Streams.{Port, ports_of, feed_streams, port_streams, unit_streams, streams_of}
+use Rattle.plant_streams.specs.Streams.{Port, ports_of, feed_streams, port_streams, unit_streams, streams_of}
 
 feeds-counted : (f : ℕ) (feeds : List FeedPart) → length (feed_streams f feeds) ≡ length feeds
 feeds-counted f [] = refl

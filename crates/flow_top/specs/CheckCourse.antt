@@ -1,8 +1,9 @@
 -- The course of `check`: the units of a plant with their ranks, as one window.
 use Rattle.std.specs.Prelude.{◌≡◌, ℕ, ◌+◌, ◌++◌, List, [], ◌∷◌, None, slice_index}
 use Rattle.parts.specs.Parts.{FileParts}
-use Rattle.plant.specs.declared.units.Unit.{Unit}
-use Rattle.plant.specs.Units.{units_of, ranks_of, name_of, kind_of}
+use Rattle.plant_units.specs.declared.units.Unit.{Unit}
+use Rattle.plant_units.specs.Units.{units_of, name_of, kind_of}
+use Rattle.plant.specs.PlantOf.{ranks_of}
 use Rattle.report.specs.Output.{rank_header, rank_row}
 use Rattle.flow_top.specs.Course.{Course}
 

@@ -4,8 +4,8 @@ use Rattle.flow_edge.specs.declared.status.Status.{Status}
 use Rattle.flow_edge.specs.declared.status.Status.TheVariants as status
 use Rattle.flow_file.specs.declared.fault.TextFault.{TextFault}
 use Rattle.flow_file.specs.declared.fault.TextFault.TheVariants as text
-use Rattle.plant.specs.declared.fault.PlantFault.{PlantFault}
-use Rattle.plant.specs.declared.fault.PlantFault.TheVariants as plant
+use Rattle.plant_checks.specs.declared.fault.PlantFault.{PlantFault}
+use Rattle.plant_checks.specs.declared.fault.PlantFault.TheVariants as plant
 use Rattle.flow_top.specs.declared.words.Command.{Command}
 use Rattle.flow_top.specs.declared.words.Command.TheVariants.{Check}
 use Rattle.flow_top.specs.declared.fault.TopFault.{TopFault}

@@ -1,7 +1,7 @@
 -- What the text of a plant source says: the parts of a plant, or why it is refused.
 use Rattle.std.specs.Prelude.{◌≡◌, ◌<◌, ◌≤◌, ℕ, List, length, Result, Ok, Err}
 use Rattle.parts.specs.Parts.{FileParts}
-use Rattle.plant.specs.declared.fault.PlantFault.{PlantFault}
+use Rattle.plant_checks.specs.declared.fault.PlantFault.{PlantFault}
 use Rattle.plant.specs.Sound.{IsPlant}
 use Rattle.plant.specs.Verdict.{IsVerdict}
 use Rattle.flow_file.specs.Plant.{parts_in}

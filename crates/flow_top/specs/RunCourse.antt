@@ -3,7 +3,7 @@ use Rattle.std.specs.Prelude.{◌≡◌, ℕ, ◌*◌, ◌-◌, ◌<◌, ◌≤�
 use Rattle.std.specs.Prelude.{if◌then◌else◌}
 use Rattle.parts.specs.Parts.{FileParts}
 use Rattle.parts.specs.declared.parts.Widths.{Widths}
-use Rattle.plant.specs.Streams.{streams_of}
+use Rattle.plant_streams.specs.Streams.{streams_of}
 use Rattle.plant.specs.Rows.{streams_of_run}
 use Rattle.report.specs.Output.{Label, header, rows_of}
 use Rattle.flow_top.specs.declared.words.Command.TheVariants.{Run}

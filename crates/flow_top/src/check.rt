@@ -1,8 +1,7 @@
 //! The command `check`: the units of a plant, with their kinds and ranks.
 
-ghost use Rattle.std.specs.Prelude.{◌≡◌, length, IfOk};
+ghost use Rattle.std.specs.Prelude.{◌≡◌, IfOk};
 ghost use Rattle.plant.specs.Sound.{IsPlant};
-ghost use Rattle.plant.specs.Units.{units_of, ranks_of};
 ghost use Rattle.flow_top.specs.declared.words.Command.TheVariants.{Check};
 ghost use Rattle.flow_top.specs.Ended.{WorkEnded};
 ghost use Rattle.flow_top.specs.CheckCourse.{rank_rows};
@@ -18,28 +17,19 @@ use std::alloc::{AllocError, Global};
 
 /// Writes the header and then one row for each unit.
 pub fn write_ranks<O: Sink>(alloc: Global, plant: &Plant, out: &mut O) -> Result<(), End>
+    requires { IsPlant plant.now }
     ensures { WorkEnded Check plant.now
         (sink_use O.given O.faults out.old out.new) result }
 {
-    is_plant(plant);
     write_piece(Command::Check, rank_header(), out)?;
     let rows = rank_rows(alloc, plant)?;
     write_piece(Command::Check, &rows, out)
-}
-
-/// What is known of a built plant: its parts are a plant, and each unit has a rank.
-fn is_plant(plant: &Plant)
-    ensures plant { IsPlant plant.now }
-    ensures ranked { length (ranks_of plant.now) ≡ length (units_of plant.now) }
-{
-    let _ = plant.parts();
 }
 
 /// One row for each unit: its name, its kind and its rank.
 fn rank_rows(alloc: Global, plant: &Plant) -> Result<Vec<u8>, AllocError>
     ensures { IfOk result (λ text. text.items ≡ rank_rows plant.now) }
 {
-    is_plant(plant);
     let units = plant.units();
     let ranks = plant.ranks();
     let mut rows = Rows::new(alloc);

@@ -53,6 +53,5 @@ fn plant_in(alloc: Global, text: &[u8]) -> Result<Plant, Unfit>
         Err(Unbuilt::Fault(fault)) => return Err(Unfit::Fault(fault.into())),
         Err(Unbuilt::NoMemory) => return Err(Unfit::NoMemory),
     };
-    let _ = plant.parts();
     Ok(plant)
 }

@@ -2,7 +2,7 @@
 
 ghost use Rattle.std.specs.Prelude.{◌≡◌, ◌⊎◌, ◌≤◌, ◌++◌, length, IfOk, OnOk};
 ghost use Rattle.std.specs.Option.{option_map};
-ghost use Rattle.plant.specs.Streams.{streams_of};
+ghost use Rattle.plant_streams.specs.Streams.{streams_of};
 ghost use Rattle.plant.specs.Rows.{IsRow, stream_in};
 ghost use Rattle.report.specs.Output.{rows_from};
 ghost use Rattle.flow_top.specs.declared.words.Command.TheVariants.{Run};

@@ -1,5 +1,6 @@
 ghost use Rattle.std.specs.Prelude.{◌≡◌, ◌⊎◌, ℕ, List, Some, None, Ok, Err};
 ghost use Rattle.flow_edge.specs.Faults.{Rose};
+ghost use Rattle.plant.specs.Sound.{IsPlant};
 ghost use Rattle.flow_top.specs.declared.words.Command.{Command};
 ghost use Rattle.flow_top.specs.declared.fault.Stop.{Stop};
 ghost use Rattle.flow_top.specs.Words.{command_in};
@@ -157,6 +158,7 @@ fn do_on_plant<O: Sink>(
     plant: &Plant,
     out: &mut O,
 ) -> Result<(), End>
+    requires { IsPlant plant.now }
     ensures { WorkEnded command plant.now
         (sink_use O.given O.faults out.old out.new) result }
 {

@@ -1,27 +1,25 @@
 -- The bands that a plant's file gives its feeds: in each piece, and so at each tick.
-use Rattle.std.specs.Prelude.{codes}
-use Rattle.std.proofs.Common.{◌≡◌, ℕ, zero, suc, ◌<◌, Bool, true, false, not, List, [], ◌∷◌, ◌++◌, length, map, slice_index_or, Ok, arith, pos, eqb-true, le-leb}
-use Rattle.std.specs.Prelude.{if◌then◌else◌, nat_le, ◌==◌}
+use Rattle.std.proofs.Common.{Bool, true, false, ℕ, List, [], ◌∷◌, ◌≡◌, suc, Ok, arith, le-leb, pos, not, eqb-true, map, zero, slice_index_or, ◌<◌, ◌++◌, length}
+use Rattle.std.specs.Prelude.{if◌then◌else◌, nat_le, ◌==◌, codes}
 use Rattle.std.specs.List.{AllByRecursion}
 use Rattle.std.proofs.lemmas.Int.{ints}
-use Rattle.quant.specs.Interval.{Interval, IsBand, IsInside, AllBands, AllInside, point}
+use Rattle.quant.specs.Interval.{Interval, IsInside, IsBand, point, AllBands, AllInside}
 use Rattle.quant.specs.declared.limits.Limits.{Limits}
-use Rattle.parts.specs.Parts.{FileParts}
 use Rattle.parts.specs.Given.{latest, band_at, kind_bands, given_bands}
 use Rattle.parts.specs.InRange.{IsPiece, IsFeedBand, IsFeedKind, IsFeedPart, AreInRange}
+use Rattle.parts.specs.declared.feeds.Piece.{Piece}
 use Rattle.parts.specs.declared.feeds.FeedBand.{FeedBand}
 use Rattle.parts.specs.declared.feeds.FeedBand.TheVariants as feed_band
 use Rattle.parts.specs.declared.feeds.FeedKind.{FeedKind}
 use Rattle.parts.specs.declared.feeds.FeedKind.TheVariants as feed_kind
 use Rattle.parts.specs.declared.feeds.FeedPart.{FeedPart}
-use Rattle.parts.specs.declared.feeds.Piece.{Piece}
-use Rattle.plant.specs.declared.fault.PlantFault.TheVariants as fault
-use Rattle.plant.specs.declared.streams.Stream.{Stream}
-use Rattle.plant.specs.Streams.{feed_streams, unit_streams, streams_of, is_signal}
-use Rattle.plant.specs.Units.{channel_limits, stream_limits}
-use Rattle.plant.specs.Rows.{all_limits}
-use Rattle.plant.specs.Building.{refuse_if, each, is_outside, piece_place, Channel, channels_of, pieces_check, inside_check, feed_pieces_check, feed_inside_check}
-use Rattle.plant.proofs.Passed.{passes-one, passes-three, ArePassed, passes-both, passes-test, passes-inside}
+use Rattle.parts.specs.Parts.{FileParts}
+use Rattle.plant_streams.specs.Streams.{is_signal, feed_streams, unit_streams, streams_of}
+use Rattle.plant_streams.specs.Limits.{channel_limits, stream_limits, limits_at}
+use Rattle.plant_streams.specs.declared.streams.Stream.{Stream}
+use Rattle.plant_checks.specs.declared.fault.PlantFault.TheVariants as fault
+use Rattle.plant_checks.specs.Checks.{refuse_if, each, is_outside, piece_place, pieces_check, inside_check, Channel, channels_of, feed_pieces_check, feed_inside_check}
+use Rattle.plant_checks.proofs.Passed.{passes-both, passes-inside, passes-test, passes-one, passes-three, ArePassed}
 
 -- one of two bands
 chosen-inside : (b : Bool) (A B limits : Interval) → IsInside A limits → IsInside B limits → IsInside (if b then A else B) limits
@@ -138,7 +136,7 @@ feeds-inside parts i tick (suc f) (feed ∷ feeds) rest h g e l =
     feeds-inside parts (suc i) tick f feeds rest h.1 a.1 b.1 (omega arith)
 
 pub given-inside : (parts : FileParts) → AreInRange parts → ArePassed parts → (tick f : ℕ) → f < length parts.feeds →
-    AllInside (given_bands parts tick f) (slice_index_or (all_limits parts) f [])
+    AllInside (given_bands parts tick f) (limits_at parts f)
 unfolding streams_of
 given-inside parts ranges passed tick f l =
     feeds-inside parts 0 tick f parts.feeds (unit_streams 0 parts.units) (ranges.feeds).1 passed.pieces passed.insides l

@@ -1,5 +1,5 @@
 -- The feeds get their bands one after another.
-use Rattle.std.proofs.Common.{◌≡◌, ℕ, ◌+◌, ◌<◌, ◌≢◌, List, [], ◌∷◌, length, set, get_or, inl, inr, refl, sym, ap, subst, ◌∙◌, length-set, get_or-set_other, arith}
+use Rattle.std.proofs.Common.{◌≡◌, ℕ, ◌<◌, [], length, get_or, List, sym, ap, ◌∙◌, arith, refl, ◌+◌, ◌≢◌, set, inl, inr, length-set, get_or-set_other, subst, ◌∷◌}
 use Rattle.std.proofs.lemmas.Bool.{cases_eq, cases_lt}
 use Rattle.std.proofs.lemmas.Grind.{get_or-set_at}
 use Rattle.std.proofs.lemmas.Int.{ints}
@@ -9,12 +9,14 @@ use Rattle.quant.proofs.Calls.{inside-length}
 use Rattle.parts.specs.Parts.{FileParts}
 use Rattle.parts.specs.Given.{kind_bands, given_bands}
 use Rattle.parts.specs.declared.feeds.FeedPart.{FeedPart}
-use Rattle.plant.specs.Streams.{streams_of}
-use Rattle.plant.specs.Units.{units_of, opening_of, stream_limits}
-use Rattle.plant.specs.Rows.{RowBands, all_limits, opening_row, IsRow}
-use Rattle.plant.specs.Sound.{ArePartsSound}
-use Rattle.plant.specs.Steps.{bands_at, HasChannels, HaveGiven, AreFed}
+use Rattle.plant_streams.specs.Limits.{stream_limits, limits_at}
+use Rattle.plant_streams.specs.Streams.{streams_of}
+use Rattle.plant_units.specs.Steps.{bands_at}
+use Rattle.plant_units.specs.Units.{units_of, opening_of}
 use Rattle.plant.proofs.Lookups.{at-map, item, sound-at}
+use Rattle.plant.specs.Sound.{ArePartsSound}
+use Rattle.plant.specs.Steps.{HasChannels, HaveGiven, AreFed}
+use Rattle.plant.specs.Rows.{RowBands, IsRow, opening_row}
 use Rattle.plant.proofs.Stepping.{inside-states}
 
 -- what a feed gives
@@ -27,7 +29,7 @@ pub gives-all : (parts : FileParts) (tick f : ℕ) (x : FeedPart) (before now : 
     length (kind_bands tick (get_or parts.feeds f x).kind) ≡ length (bands_at now f)
 gives-all parts tick f x before now sound fed has have h =
     ap length (sym (given-is parts tick f x h))
-    ∙ (inside-length (given_bands parts tick f) (bands_at (all_limits parts) f) (fed.fed tick f h)
+    ∙ (inside-length (given_bands parts tick f) (limits_at parts f) (fed.fed tick f h)
     ∙ (sym (has.channels f (sound.feeds_counted f h)) ∙ ap length (sym (have.rest f (omega arith)))))
 
 pub feed-there : (parts : FileParts) (f : ℕ) → ArePartsSound parts → f < length parts.feeds → f < length (streams_of parts)
@@ -58,10 +60,10 @@ pub channels-of-row : (parts : FileParts) (row : RowBands) → IsRow parts row �
 channels-of-row parts row r = record { counted = r.streams_counted; channels = r.channels }
 
 channel-given : (parts : FileParts) (tick s : ℕ) (before after : List (List Interval)) → AreFed parts → HasChannels parts before →
-    HaveGiven parts tick (length parts.feeds) before after → s < length (streams_of parts) → length (bands_at after s) ≡ length (bands_at (all_limits parts) s)
+    HaveGiven parts tick (length parts.feeds) before after → s < length (streams_of parts) → length (bands_at after s) ≡ length (limits_at parts s)
 channel-given parts tick s before after fed has have h =
     elim (cases_lt s (length parts.feeds)) [
-      | inl k ↦ ap length (have.given s k k) ∙ inside-length (given_bands parts tick s) (bands_at (all_limits parts) s) (fed.fed tick s k)
+      | inl k ↦ ap length (have.given s k k) ∙ inside-length (given_bands parts tick s) (limits_at parts s) (fed.fed tick s k)
       | inr k ↦ ap length (have.rest s k) ∙ has.channels s h
     ]
 
@@ -72,7 +74,7 @@ row-given parts tick row after fed r have = record {
   streams_counted = have.counted ∙ r.streams_counted;
   channels = λ s h. channel-given parts tick s row.streams after fed (channels-of-row parts row r) have h;
   states = r.states;
-  feeds = λ f h. subst (λ (bands : List Interval). AllInside bands (bands_at (all_limits parts) f)) (sym (have.given f h h)) (fed.fed tick f h);
+  feeds = λ f h. subst (λ (bands : List Interval). AllInside bands (limits_at parts f)) (sym (have.given f h h)) (fed.fed tick f h);
 }
 
 -- the row that a plant starts from
@@ -89,5 +91,5 @@ opening-is-row parts sound = record {
       let x = item (units_of parts) u h in
       rw (at-map opening_of (units_of parts) u x [] h)
       (inside-states parts u x (opening_of (get_or (units_of parts) u x)) h (sound-at parts u x sound.units h).starts);
-  feeds = λ f h. all_inside-self (bands_at (all_limits parts) f);
+  feeds = λ f h. all_inside-self (limits_at parts f);
 }

@@ -1,17 +1,18 @@
 -- There is a verdict on parts.
-use Rattle.std.proofs.Common.{◌≡◌, ◌<◌, ◌≤◌, ◌⊎◌, ℕ, List, length, slice_index, Ok, Err, refl, inl, inr, arith}
+use Rattle.std.proofs.Common.{◌<◌, ℕ, List, slice_index, ◌⊎◌, inl, inr, arith, ◌≤◌, length, ◌≡◌, Ok, Err, refl}
 use Rattle.std.proofs.lemmas.Bool.{cases_lt}
 use Rattle.std.proofs.lemmas.List.{get_or_past}
 use Rattle.topology.proofs.Choices.{IsFirst, none_or_first}
 use Rattle.topology.proofs.Found.{ranks-or-first_loop}
 use Rattle.parts.specs.Parts.{FileParts}
-use Rattle.plant.specs.declared.fault.PlantFault.TheVariants as fault
-use Rattle.plant.specs.declared.fault.Unbuilt.TheVariants as unbuilt
-use Rattle.plant.specs.Units.{links_of, ranks_of}
+use Rattle.plant_checks.specs.declared.fault.PlantFault.TheVariants as fault
+use Rattle.plant_checks.specs.Checks.{Checked, checked}
+use Rattle.plant_checks.specs.declared.fault.Unbuilt.TheVariants as unbuilt
+use Rattle.plant.specs.Verdict.{unit_name, AreRanked, IsVerdict}
+use Rattle.plant.specs.PlantOf.{most_rank}
 use Rattle.plant.specs.Seen.{IsFirstAbove}
-use Rattle.plant.specs.Building.{Checked, checked}
-use Rattle.plant.specs.Verdict.{unit_name, most_rank, AreRanked, IsVerdict}
-use Rattle.plant.proofs.BuildVerdicts.{refused, loops, deep, stands}
+use Rattle.plant.specs.PlantOf.{ranks_of, links_of}
+use Rattle.plant.proofs.BuildVerdicts.{deep, stands, refused, loops}
 
 -- a unit's rank is above 16
 abbrev IsAbove : List ℕ → ℕ → Type 0

@@ -1,17 +1,21 @@
 -- What stands at one place of a plant's units, its streams and their limits.
-use Rattle.std.proofs.Common.{◌≡◌, ℕ, zero, suc, ◌+◌, ◌<◌, List, [], ◌∷◌, length, map, get_or, refl, sym, ap, subst, ◌∙◌, arith, add-zero, zero-add}
+use Rattle.std.proofs.Common.{ℕ, ◌<◌, List, [], ◌∷◌, length, arith, ◌≡◌, map, get_or, sym, subst, ◌∙◌, zero, suc, ◌+◌, add-zero, zero-add, refl, ap}
 use Rattle.std.proofs.Math.ListN.{get_or-map}
 use Rattle.std.proofs.lemmas.List.{get_or_default, length-map}
 use Rattle.std.specs.Prelude.{slice_index_or}
+use Rattle.quant.specs.Interval.{Interval}
 use Rattle.flowsheet.specs.Plant as sheet
 use Rattle.parts.specs.Parts.{FileParts}
-use Rattle.plant.specs.declared.streams.Stream.{Stream}
-use Rattle.plant.specs.declared.streams.StreamSource.{StreamSource}
-use Rattle.plant.specs.declared.streams.StreamSource.TheVariants as source
-use Rattle.plant.specs.declared.units.Unit.{Unit}
-use Rattle.plant.specs.Streams.{streams_of}
-use Rattle.plant.specs.Units.{units_of, plant_of, gives_of, sheet_unit, origin_in, source_at}
-use Rattle.plant.specs.Sound.{IsSoundUnit, AreSoundFrom, IsSource, ArePartsSound, outputs_at}
+use Rattle.plant_streams.specs.declared.streams.Stream.{Stream}
+use Rattle.plant_streams.specs.declared.streams.StreamSource.TheVariants as source
+use Rattle.plant_streams.specs.Streams.{streams_of}
+use Rattle.plant_streams.specs.declared.streams.StreamSource.{StreamSource}
+use Rattle.plant_streams.specs.Limits.{source_at}
+use Rattle.plant_units.specs.declared.units.Unit.{Unit}
+use Rattle.plant_units.specs.Steps.{bands_at}
+use Rattle.plant_units.specs.Units.{units_of, sheet_unit, gives_of}
+use Rattle.plant.specs.Sound.{IsSoundUnit, AreSoundFrom, outputs_at, IsSource, ArePartsSound}
+use Rattle.plant.specs.PlantOf.{plant_of, origin_in}
 
 -- there is an item at each place of a list
 pub item : {A : Type 0} (xs : List A) (n : ℕ) → n < length xs → A
@@ -22,6 +26,15 @@ item (x ∷ xs) n h = x
 pub at-map : {A B : Type 0} (f : A → B) (xs : List A) (n : ℕ) (x : A) (y : B) → n < length xs → slice_index_or (map f xs) n y ≡ f (get_or xs n x)
 at-map f xs n x y h =
     get_or_default (map f xs) n y (f x) (subst (λ (k : ℕ). n < k) (sym (length-map xs f)) h) ∙ get_or-map f xs n x
+
+-- the unit, and the bands, that are found at a place
+pub unit-there : (parts : FileParts) (n : ℕ) (x : Unit) (units : List Unit) → x ≡ get_or units n x → units ≡ units_of parts →
+    x ≡ get_or (units_of parts) n x
+unit-there parts n x units is same = is ∙ ap (λ us. get_or us n x) same
+
+pub bands-there : (rows : List (List Interval)) (n : ℕ) (bands row other : List Interval) → n < length rows → bands ≡ row →
+    row ≡ get_or rows n other → bands ≡ bands_at rows n
+bands-there rows n bands row other h e is = e ∙ (is ∙ get_or_default rows n other [] h)
 
 -- a unit that stands at a place is sound there
 sound_in-list : (parts : FileParts) (k : ℕ) (xs : List Unit) (u : ℕ) (x : Unit) → AreSoundFrom parts k xs → u < length xs →

@@ -1,17 +1,17 @@
 -- Streams by their numbers: the feeds, and then the outputs of each unit in turn.
-use Rattle.std.proofs.Common.{◌≡◌, ℕ, zero, suc, ◌+◌, ◌<◌, Bool, true, false, List, [], ◌∷◌, ◌++◌, length, map, slice_index_or, unwrap_or, Option, Some, None, Ok, refl, sym, ap, ◌∙◌, arith, append_assoc, get_or-append-add}
+use Rattle.std.proofs.Common.{◌≡◌, ℕ, ◌<◌, Bool, true, false, Option, Some, arith, suc, ◌+◌, List, [], ◌∷◌, length, refl, sym, unwrap_or, map, slice_index_or, None, Ok, ap, ◌++◌, ◌∙◌, get_or-append-add, append_assoc, zero}
 use Rattle.std.specs.Prelude.{if◌then◌else◌, bytes_eq}
 use Rattle.std.specs.List.{AllByRecursion}
 use Rattle.std.proofs.lemmas.List.{map-append, length-map, length-append}
-use Rattle.parts.specs.Parts.{FileParts}
 use Rattle.parts.specs.declared.feeds.FeedPart.{FeedPart}
+use Rattle.parts.specs.Parts.{FileParts}
 use Rattle.parts.specs.declared.units.UnitPart.{UnitPart}
-use Rattle.plant.specs.declared.streams.Stream.{Stream}
-use Rattle.plant.specs.declared.streams.StreamSource.{StreamSource}
-use Rattle.plant.specs.declared.streams.StreamSource.TheVariants as source
-use Rattle.plant.specs.Streams.{Port, Reference, ports_of, feed_streams, port_streams, unit_streams, streams_of, number_from, number_of}
-use Rattle.plant.specs.Building.{source_refused, port_refused, gives_signal, same_bool, each}
-use Rattle.plant.proofs.Passed.{passes-both, passes-test}
+use Rattle.plant_streams.specs.declared.streams.Stream.{Stream}
+use Rattle.plant_streams.specs.Streams.{number_from, Reference, number_of, gives_signal, feed_streams, Port, port_streams, unit_streams, streams_of, ports_of}
+use Rattle.plant_streams.specs.declared.streams.StreamSource.{StreamSource}
+use Rattle.plant_streams.specs.declared.streams.StreamSource.TheVariants as source
+use Rattle.plant_checks.specs.Checks.{same_bool, source_refused, port_refused, each}
+use Rattle.plant_checks.proofs.Passed.{passes-test, passes-both}
 
 -- the number of a stream is below their count
 chosen-below : (b : Bool) (s n m : ℕ) (o : Option ℕ) → (o ≡ Some n → n < m) → s < m → (if b then Some s else o) ≡ Some n → n < m

@@ -1,19 +1,19 @@
 -- The limits of a plant and of its units are limits.
-use Rattle.std.proofs.Common.{◌≡◌, ℕ, zero, suc, ℤ, pos, ◌≤ℤ◌, List, [], ◌∷◌, map, slice_index_or, unwrap_or, Option, Some, None, Ok}
+use Rattle.std.proofs.Common.{ℤ, ◌≤ℤ◌, ◌≡◌, pos, Ok, unwrap_or, Option, Some, None, ℕ, zero, suc, List, [], ◌∷◌, map, slice_index_or}
 use Rattle.std.specs.Prelude.{IfSome}
 use Rattle.std.specs.List.{AllByRecursion}
 use Rattle.quant.specs.Interval.{Interval, IsBand, IsInside, wide}
-use Rattle.quant.specs.Limits.{AreLimits, wide_from}
+use Rattle.quant.specs.Limits.{wide_from, AreLimits}
 use Rattle.quant.specs.declared.limits.Limits.{Limits}
-use Rattle.parts.specs.Parts.{FileParts}
 use Rattle.parts.specs.InRange.{IsWide, AreWideLimits, AreOwnLimits, IsUnitPart, AreInRange}
 use Rattle.parts.specs.declared.units.UnitPart.{UnitPart}
-use Rattle.plant.specs.declared.fault.PlantFault.{PlantFault}
-use Rattle.plant.specs.declared.streams.StreamSource.{StreamSource}
-use Rattle.plant.specs.declared.streams.StreamSource.TheVariants as source
-use Rattle.plant.specs.Units.{limits_in, source_limits}
-use Rattle.plant.specs.Building.{refuse_if, each, own_begins_below, limits_check, own_limits_check}
-use Rattle.plant.proofs.Passed.{ArePassed, passes-both, passes-begins}
+use Rattle.parts.specs.Parts.{FileParts}
+use Rattle.plant_streams.specs.Limits.{limits_in, source_limits}
+use Rattle.plant_streams.specs.declared.streams.StreamSource.{StreamSource}
+use Rattle.plant_streams.specs.declared.streams.StreamSource.TheVariants as source
+use Rattle.plant_checks.specs.Checks.{refuse_if, limits_check, own_begins_below, own_limits_check, each}
+use Rattle.plant_checks.proofs.Passed.{passes-both, passes-begins, ArePassed}
+use Rattle.plant_checks.specs.declared.fault.PlantFault.{PlantFault}
 
 -- a wide band from a number on
 wide-from : (first : ℤ) (band : Interval) → IsWide band → first ≤ℤ band.lo → IsBand band × IsInside band (wide_from first)

@@ -1,28 +1,30 @@
 -- What the checks of a plant's parts give, and what a plant's parts are.
-use Rattle.std.proofs.Common.{◌≡◌, ◌<◌, ℕ, suc, Ok, length, [], slice_index_or, refl}
+use Rattle.std.proofs.Common.{◌≡◌, ◌<◌, ℕ, Ok, length, refl, suc}
 use Rattle.quant.specs.Interval.{AllInside}
 use Rattle.flowsheet.specs.Plant.{IsRanked}
-use Rattle.flowsheet.specs.Limited.{AreBands, IsLimited}
+use Rattle.flowsheet.specs.Limited.{IsLimited, AreBands}
 use Rattle.parts.specs.Parts.{FileParts}
 use Rattle.parts.specs.InRange.{AreInRange}
 use Rattle.parts.specs.Given.{given_bands}
-use Rattle.plant.specs.Streams.{streams_of}
-use Rattle.plant.specs.Units.{units_of, source_at, plant_of, carried_of}
-use Rattle.plant.specs.Building.{Checked, checked}
-use Rattle.plant.specs.Verdict.{IsVerdict}
-use Rattle.plant.specs.Rows.{RowBands, all_limits, opening_row, IsStep, HasStatesOf, HasFeedsOf, HasStreamsOf}
+use Rattle.plant_streams.specs.Streams.{streams_of}
+use Rattle.plant_streams.specs.Limits.{source_at, limits_at}
+use Rattle.plant_checks.specs.Checks.{checked, Checked}
+use Rattle.plant_checks.proofs.Passed.{ArePassed, are-passed}
+use Rattle.plant_units.specs.Units.{units_of}
 use Rattle.plant.specs.Sound.{ArePartsSound, AreSoundFrom, IsSource, IsPlant}
-use Rattle.plant.proofs.Passed.{ArePassed, are-passed}
 use Rattle.plant.proofs.OwnLimits.{stream-limits}
 use Rattle.plant.proofs.Numbers.{feeds-first, feeds-there}
 use Rattle.plant.proofs.Sources.{by-source, length-units_of}
 use Rattle.plant.proofs.UnitLaws.{units-sound}
 use Rattle.plant.proofs.UnitLinks.{units-linked}
-use Rattle.plant.proofs.Feeds.{given-inside}
-use Rattle.plant.proofs.Sheets.{all-bands, all-limited, all-ranked}
-use Rattle.plant.proofs.Ticks.{next-streams, next-states}
+use Rattle.plant.specs.Verdict.{IsVerdict}
 use Rattle.plant.proofs.Verdicts.{one-verdict}
 use Rattle.plant.proofs.Judgements.{some-verdict}
+use Rattle.plant.specs.PlantOf.{plant_of, carried_of}
+use Rattle.plant.proofs.Sheets.{all-ranked, all-limited, all-bands}
+use Rattle.plant.proofs.Feeds.{given-inside}
+use Rattle.plant.specs.Rows.{opening_row, HasStatesOf, RowBands, IsStep, HasFeedsOf, HasStreamsOf}
+use Rattle.plant.proofs.Ticks.{next-streams, next-states}
 
 pub parts-sound : (parts : FileParts) → AreInRange parts → checked parts ≡ Ok tt → ArePartsSound parts
 parts-sound parts ranges passes =
@@ -61,7 +63,7 @@ pub parts-bands : (parts : FileParts) (n : ℕ) → IsPlant parts →
 parts-bands parts n plant = all-bands parts n plant.ranges (plant-sound parts plant)
 
 pub parts-fed : (parts : FileParts) → IsPlant parts →
-    (tick f : ℕ) → f < length parts.feeds → AllInside (given_bands parts tick f) (slice_index_or (all_limits parts) f [])
+    (tick f : ℕ) → f < length parts.feeds → AllInside (given_bands parts tick f) (limits_at parts f)
 parts-fed parts plant tick f l = given-inside parts plant.ranges (are-passed parts plant.passes) tick f l
 
 pub opening-states : (parts : FileParts) → IsPlant parts → HasStatesOf parts 0 (opening_row parts)

@@ -1,6 +1,6 @@
 -- Parts that pass the checks can be made: the rates of their reactors are tables, and their mixers have few inputs.
-use Rattle.std.proofs.Common.{◌≡◌, ℕ, zero, suc, ap, ◌-◌, ◌+◌, ◌<◌, ℤ, pos, true, false, not, List, [], ◌∷◌, length, get_or, slice_index_or, All, Ok, Err, refl, sym, ◌∙◌, subst, arith}
-use Rattle.std.specs.Prelude.{Bool, ◌&&◌, int_le, int_lt}
+use Rattle.std.proofs.Common.{◌≡◌, ℕ, zero, suc, ◌+◌, ◌<◌, ℤ, pos, true, List, [], ◌∷◌, length, get_or, slice_index_or, All, Ok, refl, subst, arith}
+use Rattle.std.specs.Prelude.{◌&&◌, int_le, int_lt}
 use Rattle.std.specs.List.{AllByRecursion}
 use Rattle.std.proofs.lemmas.Int.{ints}
 use Rattle.quant.specs.Table.{IsTable, HasRate, IsStep, AreSteps}
@@ -9,23 +9,9 @@ use Rattle.parts.specs.InRange.{IsRatePoint, AreRatePoints, IsKindPart, IsUnitPa
 use Rattle.parts.specs.declared.units.KindPart.{KindPart}
 use Rattle.parts.specs.declared.units.KindPart.TheVariants as part
 use Rattle.parts.specs.declared.units.UnitPart.{UnitPart}
-use Rattle.plant.specs.declared.fault.PlantFault.{PlantFault}
-use Rattle.plant.specs.Building.{Checked, ◌>>◌, refuse_if, each, rises_well, rate_refused, rate_kind_check, rate_check, names_checked, references_checked, bands_checked, feeds_checked, checked}
-use Rattle.plant.specs.Seen.{IsMakeable}
-use Rattle.plant.proofs.Checks.{checked_in_groups}
-
--- checks that pass one after another pass
-first_passes : (a b : Checked) → (a >> b) ≡ Ok tt → a ≡ Ok tt
-first_passes (Ok x) b e = refl
-first_passes (Err refusal) b e = absurd cc
-
-next_passes : (a b : Checked) → (a >> b) ≡ Ok tt → b ≡ Ok tt
-next_passes (Ok x) b e = e
-next_passes (Err refusal) b e = absurd cc
-
-not_refused : (test : Bool) (refusal : PlantFault) → refuse_if (not test) refusal ≡ Ok tt → test ≡ true
-not_refused true refusal e = refl
-not_refused false refusal e = absurd cc
+use Rattle.plant_checks.specs.Checks.{each, rises_well, rate_refused, rate_kind_check, rate_check, checked}
+use Rattle.plant_checks.proofs.Passed.{passes-both, passes-test, are-passed}
+use Rattle.plant_units.specs.Units.{IsMakeable}
 
 -- a point that rises well is a step
 is_step : (from to : ℤ × ℤ) → (int_lt from.0 to.0 && int_le from.1 to.1) ≡ true → IsStep from to
@@ -37,16 +23,16 @@ steps_from : (u : ℕ) (points : List (ℤ × ℤ)) (i : ℕ) (p : ℤ × ℤ) (
 steps_from u points i p [] at e = tt
 steps_from u points i p (q ∷ rest) at e =
     let same : slice_index_or points i (pos 0, pos 0) ≡ p = let n : i ≡ i + 0 = omega arith in rw n (at 0) in
-    let well : rises_well points (suc i) q ≡ true = not_refused _ _ (first_passes (rate_refused u points (suc i) q) _ e) in (
+    let well : rises_well points (suc i) q ≡ true = passes-test _ _ (passes-both (rate_refused u points (suc i) q) _ e).0 in (
       is_step p q (subst (λ (before : ℤ × ℤ). (int_lt before.0 q.0 && int_le before.1 q.1) ≡ true) same well),
       steps_from u points (suc i) q rest (λ k. let n : suc i + k ≡ i + suc k = omega arith in rw n (at (suc k)))
-          (next_passes (rate_refused u points (suc i) q) _ e),
+          (passes-both (rate_refused u points (suc i) q) _ e).1,
     )
 
 steps_of : (u : ℕ) (points : List (ℤ × ℤ)) → each (rate_refused u points) 0 points ≡ Ok tt → AreSteps points
 steps_of u [] e = tt
 steps_of u (p ∷ rest) e =
-    steps_from u (p ∷ rest) 0 p rest (λ k. let n : 0 + k ≡ k = omega arith in rw n refl) (next_passes (rate_refused u (p ∷ rest) 0 p) _ e)
+    steps_from u (p ∷ rest) 0 p rest (λ k. let n : 0 + k ≡ k = omega arith in rw n refl) (passes-both (rate_refused u (p ∷ rest) 0 p) _ e).1
 
 points_at : (points : List (ℤ × ℤ)) (k : ℕ) (d : ℤ × ℤ) → AllByRecursion IsRatePoint points → k < length points → HasRate (get_or points k d)
 points_at [] k d h l = absurd (omega arith)
@@ -69,24 +55,8 @@ makeable_at : (u : ℕ) (units : List UnitPart) (k : ℕ) (d : UnitPart) → All
     k < length units → IsMakeable (get_or units k d).kind
 unfolding rate_check
 makeable_at u [] k d h e l = absurd (omega arith)
-makeable_at u (unit ∷ rest) zero d h e l = kind_makeable u unit.kind (h.0).kind (first_passes (rate_check u unit) _ e)
-makeable_at u (unit ∷ rest) (suc k) d h e l = makeable_at (suc u) rest k d h.1 (next_passes (rate_check u unit) _ e) (omega arith)
-
-rates_pass : (parts : FileParts) → checked parts ≡ Ok tt → each rate_check 0 parts.units ≡ Ok tt
-rates_pass parts e =
-    let a = next_passes (names_checked parts) _ (sym (checked_in_groups parts) ∙ e) in
-    let b = next_passes (references_checked parts) _ a in
-    let c = next_passes (bands_checked parts) _ b in
-    let d = next_passes (feeds_checked parts) _ c in
-    first_passes (each rate_check 0 parts.units) _ d
+makeable_at u (unit ∷ rest) zero d h e l = kind_makeable u unit.kind (h.0).kind (passes-both (rate_check u unit) _ e).0
+makeable_at u (unit ∷ rest) (suc k) d h e l = makeable_at (suc u) rest k d h.1 (passes-both (rate_check u unit) _ e).1 (omega arith)
 
 pub all_makeable : (parts : FileParts) → AreInRange parts → checked parts ≡ Ok tt → All (λ unit. IsMakeable unit.kind) parts.units
-all_makeable parts ranges e = λ k d l. makeable_at 0 parts.units k d (ranges.units).2 (rates_pass parts e) l
-
--- a point that rises from the one before it rises well
-pub rises_later : (points : List (ℤ × ℤ)) (index : ℕ) (point before : ℤ × ℤ) (rises : Bool) → (index ≡ 0 → ⊥) → before ≡ slice_index_or points (index - 1) (pos 0, pos 0) →
-    rises ≡ (int_lt before.0 point.0 && int_le before.1 point.1) → rises ≡ rises_well points index point
-rises_later points zero point before rises n e r = absurd (n refl)
-rises_later points (suc i) point before rises n e r =
-    let k : suc i - 1 ≡ i = omega arith in
-    r ∙ ap (λ (p : ℤ × ℤ). int_lt p.0 point.0 && int_le p.1 point.1) (e ∙ ap (λ (j : ℕ). slice_index_or points j (pos 0, pos 0)) k)
+all_makeable parts ranges e = λ k d l. makeable_at 0 parts.units k d (ranges.units).2 (are-passed parts e).rates l

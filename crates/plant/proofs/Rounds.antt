@@ -1,27 +1,30 @@
 -- The units show themselves one after another, in the order of their ranks.
-use Rattle.std.proofs.Common.{◌≡◌, ◌≢◌, ℕ, zero, suc, ◌+◌, ◌<◌, ◌≤◌, max, fold, true, List, [], ◌∷◌, length, map, get_or, inl, inr, refl, sym, ap, subst, ◌∙◌, arith}
-use Rattle.std.proofs.lemmas.Bool.{cases_eq, cases_lt, eq-eqb, ne_eqb}
+use Rattle.std.proofs.Common.{ℕ, List, ap, ◌∙◌, ◌≡◌, length, sym, subst, refl, ◌<◌, arith, true, [], get_or, ◌≢◌, ◌+◌, inl, inr, ◌≤◌, max, fold, ◌∷◌, zero, suc, map}
 use Rattle.std.specs.Prelude.{Contains, slice_index, slice_index_or, if◌then◌else◌}
+use Rattle.std.proofs.lemmas.Bool.{cases_eq, cases_lt, eq-eqb, ne_eqb}
 use Rattle.quant.specs.Interval.{Interval, AllInside}
 use Rattle.quant.specs.Rounding.{Floor}
 use Rattle.quant.specs.Term.{interval}
-use Rattle.flowsheet.specs.Plant as sheet
-use Rattle.flowsheet.specs.Reading.{on_bands, inputs_of, shown}
+use Rattle.flowsheet.specs.Reading.{shown, on_bands, inputs_of}
 use Rattle.flowsheet.specs.Run.{run_streams}
-use Rattle.flowsheet.proofs.Ranks.{by_rank}
-use Rattle.flowsheet.proofs.Readings.{same-kept, inputs-kept, shown-kept}
 use Rattle.flowsheet.proofs.Stages.{run-fed, run-shown}
+use Rattle.flowsheet.specs.Plant as sheet
+use Rattle.flowsheet.proofs.Readings.{same-kept, inputs-kept, shown-kept}
+use Rattle.flowsheet.proofs.Ranks.{by_rank}
 use Rattle.parts.specs.Parts.{FileParts}
-use Rattle.plant.specs.declared.streams.StreamSource.{StreamSource}
-use Rattle.plant.specs.declared.streams.StreamSource.TheVariants as source
-use Rattle.plant.specs.declared.units.Unit.{Unit}
-use Rattle.plant.specs.Streams.{streams_of}
-use Rattle.plant.specs.Units.{units_of, plant_of, ranks_of, source_at, sheet_unit, gives_of, output_limits_of}
-use Rattle.plant.specs.Rows.{all_limits, IsRow}
-use Rattle.plant.specs.Sound.{limits_at, IsSource, AreInside, ArePartsSound}
-use Rattle.plant.specs.Steps.{bands_at, rank_at, greatest, run_at, shown_by, shown_at, IsReady, HasShown, IsDone, HaveShown, AreKept, AreShown}
-use Rattle.plant.proofs.AllKinds.{shown-inside}
-use Rattle.plant.proofs.Lookups.{from_feed, from_port, from, item, sound-at, unit-is, outputs-are, origin-is, rank-is, units-counted, streams-counted}
+use Rattle.plant_streams.specs.declared.streams.StreamSource.{StreamSource}
+use Rattle.plant_streams.specs.Limits.{source_at, limits_at}
+use Rattle.plant_streams.specs.declared.streams.StreamSource.TheVariants as source
+use Rattle.plant_streams.specs.Streams.{streams_of}
+use Rattle.plant_units.specs.Steps.{bands_at}
+use Rattle.plant_units.specs.declared.units.Unit.{Unit}
+use Rattle.plant_units.specs.Units.{units_of, sheet_unit, gives_of, output_limits_of}
+use Rattle.plant_units.proofs.AllKinds.{shown-inside}
+use Rattle.plant.specs.Sound.{ArePartsSound, IsSource, AreInside}
+use Rattle.plant.specs.Steps.{shown_at, HasShown, AreKept, run_at, shown_by, HaveShown, rank_at, IsDone, IsReady, greatest, AreShown}
+use Rattle.plant.specs.Rows.{IsRow}
+use Rattle.plant.specs.PlantOf.{plant_of, ranks_of}
+use Rattle.plant.proofs.Lookups.{origin-is, streams-counted, from_feed, from_port, from, sound-at, unit-is, outputs-are, item, rank-is, units-counted}
 use Rattle.plant.proofs.Stepping.{states-inside}
 
 -- the feeds stand as they did
@@ -43,7 +46,7 @@ row-after parts n states before after sound row has e =
       streams_counted = e ∙ row.streams_counted;
       channels = λ s h. has.widths s ∙ row.channels s h;
       states = row.states;
-      feeds = λ f h. subst (λ (bands : List Interval). AllInside bands (bands_at (all_limits parts) f)) (sym (stays.kept f h)) (row.feeds f h);
+      feeds = λ f h. subst (λ (bands : List Interval). AllInside bands (limits_at parts f)) (sym (stays.kept f h)) (row.feeds f h);
     }
 
 -- the streams at this tick are those of the run's first tick

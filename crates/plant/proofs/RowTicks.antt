@@ -1,21 +1,19 @@
 -- One tick: what all units have shown and stepped is the interval run's next row.
-use Rattle.std.proofs.Common.{◌≡◌, List, length, sym, ap, subst, ◌∙◌, arith}
+use Rattle.std.proofs.Common.{List, arith, length, ◌∙◌, sym, subst, ap}
 use Rattle.quant.specs.Interval.{Interval, AllInside}
 use Rattle.flowsheet.specs.Plant as sheet
 use Rattle.flowsheet.specs.Reading.{on_bands, stepped}
 use Rattle.flowsheet.proofs.Readings.{same-kept, inputs-kept}
 use Rattle.parts.specs.Parts.{FileParts}
-use Rattle.plant.specs.Units.{units_of, ranks_of, plant_of}
-use Rattle.plant.specs.Rows.{RowBands, IsRow, IsStep}
-use Rattle.plant.specs.Sound.{limits_at, ArePartsSound}
-use Rattle.plant.specs.Steps.{bands_at, run_at, AreShown, AreStreams, AreStates, HaveStepped}
+use Rattle.plant_streams.specs.Limits.{limits_at}
+use Rattle.plant_units.specs.Units.{units_of}
+use Rattle.plant_units.specs.Steps.{bands_at}
+use Rattle.plant.specs.Steps.{AreStates, AreShown, AreStreams, HaveStepped, run_at}
+use Rattle.plant.specs.PlantOf.{plant_of}
 use Rattle.plant.proofs.Lookups.{units-counted, streams-counted}
+use Rattle.plant.specs.Rows.{IsRow, RowBands, IsStep}
+use Rattle.plant.specs.Sound.{ArePartsSound}
 use Rattle.plant.proofs.Rounds.{run-inside}
-
--- as many ranks as units
-pub ranks_counted : (parts : FileParts) → sheet.IsRanked (plant_of parts) → length (ranks_of parts) ≡ length (units_of parts)
-unfolding plant_of
-ranks_counted parts ranked = ranked.counted ∙ units-counted parts
 
 -- the states of a row
 pub states-of-row : (parts : FileParts) (states streams : List (List Interval)) → IsRow parts (record { states = states; streams = streams }) → AreStates parts states

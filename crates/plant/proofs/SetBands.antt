@@ -1,10 +1,11 @@
 -- A row stays one where a band is set inside its limit.
-use Rattle.std.proofs.Common.{◌≡◌, ◌≢◌, ◌<◌, ℕ, zero, suc, pos, List, [], ◌∷◌, length, set, slice_index_or, sym, ap, ◌∙◌, subst, inl, inr, length-set, get_or-set_other}
+use Rattle.std.proofs.Common.{ℕ, zero, suc, pos, List, [], ◌∷◌, set, slice_index_or, ◌≡◌, ◌≢◌, ◌<◌, length, sym, ap, ◌∙◌, subst, inl, inr, length-set, get_or-set_other}
 use Rattle.std.proofs.lemmas.Bool.{cases_eq}
 use Rattle.std.proofs.lemmas.Grind.{get_or-set_at}
 use Rattle.quant.specs.Interval.{Interval, IsInside, AllInside, point}
 use Rattle.parts.specs.Parts.{FileParts}
-use Rattle.plant.specs.Rows.{RowBands, stream_in, set_band, all_limits, limit_at, IsRow}
+use Rattle.plant_streams.specs.Limits.{limit_at, limits_at}
+use Rattle.plant.specs.Rows.{RowBands, stream_in, set_band, IsRow}
 
 inside-set : (As Bs : List Interval) (n : ℕ) (A : Interval) → AllInside As Bs → IsInside A (slice_index_or Bs n (point (pos 0))) →
     AllInside (set As n A) Bs
@@ -17,7 +18,7 @@ pub set-is-row : (parts : FileParts) (row : RowBands) (s c : ℕ) (band : Interv
     IsInside band (limit_at parts s c) → IsRow parts (set_band row s c band)
 set-is-row parts row s c band h r i =
     let after = set_band row s c band in
-    let limits = λ (t : ℕ). slice_index_or (all_limits parts) t [] in
+    let limits = λ (t : ℕ). limits_at parts t in
     let new : List Interval = set (stream_in row s) c band in
     let same : (t : ℕ) → t ≡ s → stream_in after t ≡ new = λ t e. get_or-set_at row.streams s t new [] e h in
     let other : (t : ℕ) → t ≢ s → stream_in after t ≡ stream_in row t = λ t ne. get_or-set_other row.streams s t new [] ne in

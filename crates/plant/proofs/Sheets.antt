@@ -1,24 +1,26 @@
 -- The plant of the definitions that sound parts with ranks are.
-use Rattle.std.proofs.Common.{◌≡◌, ℕ, zero, suc, ◌<◌, max, false, List, [], ◌∷◌, ◌++◌, length, map, fold, slice_index, slice_index_or, Contains, refl, sym, ap, ◌∙◌, subst, arith}
+use Rattle.std.proofs.Common.{ℕ, zero, suc, List, [], ◌∷◌, map, slice_index_or, ◌<◌, length, arith, Contains, subst, ◌≡◌, false, refl, slice_index, max, ◌++◌, fold, ap, sym, ◌∙◌}
 use Rattle.std.specs.List.{AllByRecursion}
 use Rattle.std.proofs.lemmas.List.{length-map}
 use Rattle.quant.specs.Interval.{AllBands, AllInside}
 use Rattle.quant.specs.Rounding.{Floor}
 use Rattle.topology.specs.Links.{AreRanks}
-use Rattle.flowsheet.specs.Plant.{no_unit, rank_of, origin_rank, IsOrigin, IsRanked}
-use Rattle.flowsheet.specs.Limited.{KeepsLimits, IsLimited, AreBands}
+use Rattle.flowsheet.specs.Limited.{AreBands, KeepsLimits, IsLimited}
+use Rattle.flowsheet.specs.Plant.{no_unit, origin_rank, rank_of, IsOrigin, IsRanked}
 use Rattle.parts.specs.Parts.{FileParts}
 use Rattle.parts.specs.Given.{given_bands}
 use Rattle.parts.specs.InRange.{AreInRange}
-use Rattle.plant.specs.declared.streams.StreamSource.{StreamSource}
-use Rattle.plant.specs.declared.streams.StreamSource.TheVariants as source
-use Rattle.plant.specs.declared.units.Unit.{Unit}
-use Rattle.plant.specs.Streams.{streams_of}
-use Rattle.plant.specs.Units.{units_of, sheet_unit, opening_of, reads_of, is_instant, giver_in, source_at, links_of, ranks_of, origin_in, plant_of, carried_of}
+use Rattle.plant_streams.specs.Streams.{streams_of}
+use Rattle.plant_streams.specs.declared.streams.StreamSource.{StreamSource}
+use Rattle.plant_streams.specs.declared.streams.StreamSource.TheVariants as source
+use Rattle.plant_streams.specs.Limits.{source_at}
+use Rattle.plant_units.specs.declared.units.Unit.{Unit}
+use Rattle.plant_units.specs.Units.{opening_of, units_of, sheet_unit, reads_of, is_instant}
+use Rattle.plant_units.proofs.UnitLimits.{unit-keeps}
 use Rattle.plant.specs.Sound.{AreSoundFrom, ArePartsSound}
-use Rattle.plant.proofs.Sources.{outputs_in, origin-at, by-origin}
+use Rattle.plant.specs.PlantOf.{plant_of, carried_of, ranks_of, giver_in, origin_in, links_of}
 use Rattle.plant.proofs.Feeds.{given-bands}
-use Rattle.plant.proofs.UnitLimits.{unit-keeps}
+use Rattle.plant.proofs.Sources.{outputs_in, origin-at, by-origin}
 use Rattle.plant.proofs.UnitLinks.{givers}
 
 -- units open with bands

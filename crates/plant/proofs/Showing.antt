@@ -1,29 +1,32 @@
 -- A unit shows itself in the streams.
-use Rattle.std.proofs.Common.{◌≡◌, ◌≢◌, ℕ, ◌<◌, true, List, [], ◌∷◌, ◌++◌, length, map, get_or, inl, inr, refl, sym, ap, subst, ◌∙◌, arith}
+use Rattle.std.proofs.Common.{List, [], map, ◌≡◌, ◌∷◌, ◌++◌, refl, ap, ◌∙◌, ℕ, length, sym, arith, true, subst, ◌<◌, get_or, ◌≢◌, inl, inr}
+use Rattle.std.specs.Prelude.{if◌then◌else◌, slice_index_or, slice_index}
+use Rattle.std.proofs.lemmas.List.{map-append, length-map}
 use Rattle.std.proofs.Math.ListN.{get_or-map}
-use Rattle.std.proofs.lemmas.Bool.{cases_eq, eq-eqb, ne_eqb}
-use Rattle.std.proofs.lemmas.List.{length-map, map-append}
 use Rattle.std.specs.List.{AllByRecursion}
-use Rattle.std.specs.Prelude.{slice_index, slice_index_or, if◌then◌else◌}
+use Rattle.std.proofs.lemmas.Bool.{cases_eq, eq-eqb, ne_eqb}
 use Rattle.quant.specs.Interval.{Interval, AllInside}
 use Rattle.quant.specs.Rounding.{Floor}
-use Rattle.quant.specs.Term.{interval, intervals}
-use Rattle.quant.proofs.Calls.{inside-length}
+use Rattle.quant.specs.Term.{intervals, interval}
 use Rattle.quant.specs.Ports.{outputs}
+use Rattle.quant.proofs.Calls.{inside-length}
+use Rattle.flowsheet.specs.Reading.{shown, inputs_of, on_bands}
 use Rattle.flowsheet.specs.Plant as sheet
-use Rattle.flowsheet.specs.Reading.{shown, on_bands, inputs_of}
 use Rattle.parts.specs.Parts.{FileParts}
-use Rattle.plant.specs.declared.streams.StreamSource.{StreamSource}
-use Rattle.plant.specs.declared.streams.StreamSource.TheVariants as source
-use Rattle.plant.specs.declared.units.Unit.{Unit}
-use Rattle.plant.specs.Units.{units_of, plant_of, sheet_unit, source_at, reads_of, gives_of, view_of, is_instant, state_limits_of, output_limits_of, MayTake}
+use Rattle.plant_streams.specs.declared.streams.StreamSource.{StreamSource}
+use Rattle.plant_streams.specs.declared.streams.StreamSource.TheVariants as source
+use Rattle.plant_streams.specs.Limits.{source_at}
+use Rattle.plant_units.specs.declared.units.Unit.{Unit}
+use Rattle.plant_units.specs.Units.{view_of, is_instant, state_limits_of, sheet_unit, gives_of, output_limits_of, reads_of, MayTake, units_of}
+use Rattle.plant_units.specs.Steps.{views, bands_at, gathered, MayShow, HasRoom, spread, shows}
+use Rattle.plant_units.proofs.AllKinds.{states-read, shown-inside}
+use Rattle.plant_units.proofs.Spreads.{AreRows, rows-room, rows-spread, spread-others, spread-widths}
 use Rattle.plant.specs.Rows.{IsRow}
-use Rattle.plant.specs.Sound.{outputs_at, IsSource, IsSoundUnit, ArePartsSound}
-use Rattle.plant.specs.Steps.{bands_at, gathered, spread, HasRoom, views, MayShow, shows, shown_by, shown_at, IsReady, HasShown}
-use Rattle.plant.proofs.AllKinds.{shown-inside, states-read}
-use Rattle.plant.proofs.Lookups.{From, from_feed, from_port, from, sound-at, unit-is, outputs-are}
+use Rattle.plant.specs.Sound.{IsSoundUnit, ArePartsSound, outputs_at, IsSource}
+use Rattle.plant.specs.PlantOf.{plant_of}
+use Rattle.plant.specs.Steps.{IsReady, shown_by, shown_at, HasShown}
+use Rattle.plant.proofs.Lookups.{sound-at, unit-is, From, from_feed, from_port, from, outputs-are}
 use Rattle.plant.proofs.Stepping.{states-inside}
-use Rattle.plant.proofs.Spreads.{AreRows, rows-room, rows-spread, spread-others, spread-widths}
 
 -- what a unit shows, an output a row
 abbrev shown_rows : Unit → List Interval → List Interval → List (List Interval)

@@ -1,22 +1,24 @@
 -- Where streams come from, by their numbers: the feeds, and then the outputs of each unit in turn.
-use Rattle.std.proofs.Common.{◌≡◌, ℕ, zero, suc, ◌+◌, ◌-◌, ◌<◌, List, [], ◌∷◌, ◌++◌, length, map, slice_index, slice_index_or, refl, sym, ap, ◌∙◌, subst, subst₂, ⊎_elim, arith, add-zero}
-use Rattle.std.proofs.lemmas.Bool.{cases_lt}
-use Rattle.std.proofs.lemmas.List.{length-append}
+use Rattle.std.proofs.Common.{◌≡◌, ℕ, suc, ◌+◌, ◌-◌, List, [], ◌∷◌, length, refl, ap, map, slice_index_or, zero, ◌<◌, ◌++◌, arith, slice_index, sym, ◌∙◌, subst, subst₂, ⊎_elim, add-zero}
 use Rattle.std.specs.List.{range_with_len}
 use Rattle.std.proofs.lemmas.List.FromFn.{length-range_with_len, get_or-range_with_len}
+use Rattle.std.proofs.lemmas.Bool.{cases_lt}
+use Rattle.std.proofs.lemmas.List.{length-append}
 use Rattle.quant.specs.declared.limits.Limits.{Limits}
-use Rattle.flowsheet.specs.Plant.{Origin, feed, port, origin_of}
+use Rattle.flowsheet.specs.Plant.{feed, Origin, port, origin_of}
 use Rattle.parts.specs.Parts.{FileParts}
+use Rattle.parts.specs.declared.units.UnitPart.{UnitPart}
 use Rattle.parts.specs.declared.units.KindPart.{KindPart}
 use Rattle.parts.specs.declared.units.KindPart.TheVariants as part
-use Rattle.parts.specs.declared.units.UnitPart.{UnitPart}
-use Rattle.plant.specs.declared.streams.Stream.{Stream}
-use Rattle.plant.specs.declared.streams.StreamSource.{StreamSource}
-use Rattle.plant.specs.declared.streams.StreamSource.TheVariants as source
-use Rattle.plant.specs.declared.units.Unit.{Unit}
-use Rattle.plant.specs.Streams.{Port, ports_of, feed_streams, port_streams, unit_streams, streams_of}
-use Rattle.plant.specs.Units.{inputs_of, limits_in, made_unit, unit_from, units_from, units_of, reads_of, gives_of, origin_in, plant_of, source_at}
-use Rattle.plant.proofs.Numbers.{length-feed_streams, length-port_streams, at-placed, feeds-first}
+use Rattle.plant_streams.specs.Streams.{ports_of, Port, port_streams, streams_of, unit_streams, feed_streams}
+use Rattle.plant_streams.specs.declared.streams.Stream.{Stream}
+use Rattle.plant_streams.specs.declared.streams.StreamSource.{StreamSource}
+use Rattle.plant_streams.specs.declared.streams.StreamSource.TheVariants as source
+use Rattle.plant_streams.specs.Limits.{limits_in, source_at}
+use Rattle.plant_units.specs.Units.{units_from, units_of, gives_of, made_unit, reads_of, inputs_of, unit_from}
+use Rattle.plant_units.specs.declared.units.Unit.{Unit}
+use Rattle.plant.proofs.Numbers.{length-port_streams, at-placed, length-feed_streams, feeds-first}
+use Rattle.plant.specs.PlantOf.{origin_in, plant_of}
 
 -- there are as many units as parts of units
 length-units_from : (parts : FileParts) (first : ℕ) (rest : List UnitPart) → length (units_from parts first rest) ≡ length rest

@@ -1,15 +1,16 @@
 -- What a unit opens with, and what it is made of.
-use Rattle.std.proofs.Common.{◌≡◌, ℕ, zero, suc, ◌+◌, List, [], ◌∷◌, ◌++◌, map, replicate, Ok}
+use Rattle.std.proofs.Common.{◌≡◌, ℕ, suc, List, [], ◌∷◌, map, Ok, zero, ◌+◌, ◌++◌, replicate}
 use Rattle.std.specs.List.{range_with_len}
-use Rattle.quant.specs.Interval.{Interval, IsBand, IsInside, AllInside, AllBands}
-use Rattle.quant.specs.Limits.{AreLimits}
+use Rattle.quant.specs.Interval.{AllInside, Interval, IsInside, IsBand, AllBands}
 use Rattle.quant.specs.declared.limits.Limits.{Limits}
-use Rattle.parts.specs.InRange.{AreContents, IsKindPart}
+use Rattle.quant.specs.Limits.{AreLimits}
 use Rattle.parts.specs.declared.units.KindPart.{KindPart}
 use Rattle.parts.specs.declared.units.KindPart.TheVariants as part
-use Rattle.plant.specs.Units.{Opening, openings_of, made_unit, opening_of, state_limits_of, IsUnitSound}
-use Rattle.plant.specs.Building.{each, opening_refused}
-use Rattle.plant.proofs.Passed.{passes-both, passes-inside}
+use Rattle.parts.specs.InRange.{AreContents, IsKindPart}
+use Rattle.plant_checks.specs.Openings.{Opening, openings_of}
+use Rattle.plant_checks.specs.Checks.{each, opening_refused}
+use Rattle.plant_checks.proofs.Passed.{passes-both, passes-inside}
+use Rattle.plant_units.specs.Units.{made_unit, opening_of, state_limits_of, IsUnitSound}
 
 -- each opening band is inside its limits
 inside-each : (u i : ℕ) (openings : List Opening) → each (λ i opening. opening_refused u opening) i openings ≡ Ok tt →

@@ -1,18 +1,20 @@
 -- A unit steps its states.
-use Rattle.std.proofs.Common.{◌≡◌, ℕ, ◌+◌, ◌<◌, ◌≢◌, List, [], length, set, get_or, inl, inr, refl, sym, ap, subst, ◌∙◌, get_or-set_other, length-set, arith}
+use Rattle.std.proofs.Common.{ℕ, ◌<◌, List, length, get_or, subst, sym, ◌≡◌, ap, [], set, inl, inr, ◌∙◌, get_or-set_other, length-set, arith, refl, ◌+◌, ◌≢◌}
+use Rattle.std.specs.List.{AllByRecursion}
 use Rattle.std.proofs.lemmas.Bool.{cases_eq}
 use Rattle.std.proofs.lemmas.Grind.{get_or-set_at}
-use Rattle.std.specs.List.{AllByRecursion}
 use Rattle.quant.specs.Interval.{Interval, AllInside}
 use Rattle.flowsheet.specs.Plant as sheet
 use Rattle.flowsheet.specs.Reading.{on_bands, inputs_of, stepped}
 use Rattle.parts.specs.Parts.{FileParts}
-use Rattle.plant.specs.declared.units.Unit.{Unit}
-use Rattle.plant.specs.Units.{units_of, plant_of, sheet_unit, reads_of, state_limits_of}
+use Rattle.plant_units.specs.declared.units.Unit.{Unit}
+use Rattle.plant_units.specs.Units.{units_of, sheet_unit, state_limits_of, reads_of}
+use Rattle.plant_units.specs.Steps.{bands_at, MayStep, gathered, steps}
+use Rattle.plant_units.proofs.AllKinds.{steps-inside}
+use Rattle.plant.specs.PlantOf.{plant_of}
+use Rattle.plant.proofs.Lookups.{unit-is, sound-at}
 use Rattle.plant.specs.Sound.{ArePartsSound}
-use Rattle.plant.specs.Steps.{bands_at, gathered, MayStep, steps, AreStreams, AreStates, stepped_by, HaveStepped}
-use Rattle.plant.proofs.AllKinds.{steps-inside}
-use Rattle.plant.proofs.Lookups.{sound-at, unit-is}
+use Rattle.plant.specs.Steps.{AreStreams, AreStates, stepped_by, HaveStepped}
 
 -- the limits of its states
 pub states-inside : (parts : FileParts) (n : ℕ) (x : Unit) (state : List Interval) → n < length (units_of parts) →

@@ -1,11 +1,11 @@
 -- What a unit reads lies in the limits of the streams that its references name, and so where it may lie.
-use Rattle.std.proofs.Common.{◌≡◌, ◌≤ℤ◌, ℕ, zero, suc, ◌<◌, ℤ, pos, Bool, true, false, List, [], ◌∷◌, ◌++◌, length, map, slice_index_or, Ok, refl, ap, ◌∙◌, subst, subst₂, arith}
-use Rattle.std.specs.Prelude.{codes, ◌+ℤ◌, ◌*ℤ◌, int_le, ◌&&◌, if◌then◌else◌, flat_map}
+use Rattle.std.proofs.Common.{arith, List, [], ◌∷◌, ◌++◌, pos, Bool, true, false, ◌≡◌, ℕ, zero, suc, ◌<◌, length, map, slice_index_or, refl, ap, ◌∙◌, subst, ℤ, ◌≤ℤ◌, Ok, subst₂}
 use Rattle.std.proofs.lemmas.Int.{ints}
-use Rattle.quant.specs.Interval.{Interval, IsInside, AllInside, point, wide}
-use Rattle.quant.specs.Limits.{AreLimits, wide_from}
-use Rattle.quant.specs.Operation.{million, IsDrainable}
+use Rattle.std.specs.Prelude.{if◌then◌else◌, flat_map, ◌+ℤ◌, ◌*ℤ◌, int_le, ◌&&◌, codes}
+use Rattle.quant.specs.Interval.{Interval, IsInside, AllInside, wide, point}
+use Rattle.quant.specs.Limits.{wide_from, AreLimits}
 use Rattle.quant.specs.declared.limits.Limits.{Limits}
+use Rattle.quant.specs.Operation.{million, IsDrainable}
 use Rattle.quant.proofs.Division.{times-le}
 use Rattle.quant.proofs.Terms.{place-inside}
 use Rattle.basic_units.specs.Mixer as mixers
@@ -13,15 +13,16 @@ use Rattle.parts.specs.Parts.{FileParts}
 use Rattle.parts.specs.InRange.{IsKindPart}
 use Rattle.parts.specs.declared.units.KindPart.{KindPart}
 use Rattle.parts.specs.declared.units.KindPart.TheVariants as part
-use Rattle.plant.specs.declared.fault.PlantFault.{PlantFault}
-use Rattle.plant.specs.declared.streams.Stream.{Stream}
-use Rattle.plant.specs.declared.streams.StreamSource.TheVariants as source
-use Rattle.plant.specs.Streams.{Reference, needs_material, references_of, mixer_references, streams_of, number_of}
-use Rattle.plant.specs.Units.{made_unit, inputs_of, channel_limits, source_at, source_limits, stream_limits, MayTake}
-use Rattle.plant.specs.Building.{refuse_if, is_too_fast, greatest_flow, column_kind_check}
-use Rattle.plant.specs.Sound.{limits_at, AreInside}
-use Rattle.plant.proofs.Passed.{passes-test}
+use Rattle.plant_streams.specs.Limits.{channel_limits, source_limits, stream_limits, source_at, limits_at}
+use Rattle.plant_streams.specs.declared.streams.Stream.{Stream}
+use Rattle.plant_streams.specs.declared.streams.StreamSource.TheVariants as source
+use Rattle.plant_streams.specs.Streams.{streams_of, Reference, mixer_references, number_of, needs_material, references_of}
+use Rattle.plant_checks.specs.declared.fault.PlantFault.{PlantFault}
+use Rattle.plant_checks.specs.Checks.{refuse_if, is_too_fast, greatest_flow, column_kind_check}
+use Rattle.plant_checks.proofs.Passed.{passes-test}
+use Rattle.plant_units.specs.Units.{made_unit, inputs_of, MayTake}
 use Rattle.plant.proofs.Numbers.{number_named, IsFound, AreFound}
+use Rattle.plant.specs.Sound.{AreInside}
 
 -- intervals inside others
 inside-through : (A B C : Interval) → IsInside A B → IsInside B C → IsInside A C

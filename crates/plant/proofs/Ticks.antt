@@ -1,5 +1,5 @@
 -- Steps from the run's states and the given bands make the interval run.
-use Rattle.std.proofs.Common.{◌≡◌, ℕ, zero, suc, ◌<◌, List, length, Contains, refl, ◌∙◌, arith}
+use Rattle.std.proofs.Common.{ℕ, ◌<◌, length, Contains, arith, ◌≡◌, zero, suc, List, refl, ◌∙◌}
 use Rattle.std.proofs.lemmas.List.{length-map}
 use Rattle.quant.specs.Interval.{Interval}
 use Rattle.flowsheet.specs.Plant.{unit_at, IsRanked}
@@ -8,10 +8,11 @@ use Rattle.flowsheet.specs.Run.{from_origin, streams_below, streams_at}
 use Rattle.flowsheet.proofs.Readings.{same-kept, inputs-kept, shown-kept, stepped-kept}
 use Rattle.parts.specs.Parts.{FileParts}
 use Rattle.parts.specs.Given.{given_bands}
-use Rattle.plant.specs.Streams.{streams_of}
-use Rattle.plant.specs.Units.{units_of, sheet_unit, origin_in, plant_of}
-use Rattle.plant.specs.Rows.{RowBands, states_in, stream_in, IsStep, HasStatesOf, HasFeedsOf, HasStreamsOf, states_of_run}
+use Rattle.plant_streams.specs.Streams.{streams_of}
+use Rattle.plant_units.specs.Units.{units_of, sheet_unit}
+use Rattle.plant.specs.PlantOf.{origin_in, plant_of}
 use Rattle.plant.proofs.Sources.{by-origin}
+use Rattle.plant.specs.Rows.{RowBands, states_in, stream_in, IsStep, HasStatesOf, HasFeedsOf, HasStreamsOf, states_of_run}
 
 -- a unit reads streams that are there
 reads-there : (parts : FileParts) → IsRanked (plant_of parts) → (u q : ℕ) → u < length (units_of parts) →

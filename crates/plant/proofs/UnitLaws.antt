@@ -1,26 +1,27 @@
 -- Each unit that passes the checks is sound.
-use Rattle.std.proofs.Common.{◌≡◌, ℕ, zero, suc, ◌+◌, ◌<◌, Bool, false, List, [], ◌∷◌, ◌++◌, length, map, slice_index, slice_index_or, Ok, refl, ap, ◌∙◌, arith}
+use Rattle.std.proofs.Common.{◌≡◌, ℕ, Ok, List, suc, ◌∷◌, arith, zero, ◌+◌, ◌<◌, false, [], ◌++◌, length, map, slice_index_or, refl, ◌∙◌, slice_index, ap, Bool}
 use Rattle.std.specs.List.{AllByRecursion, range_with_len}
 use Rattle.std.proofs.lemmas.List.{length-append}
 use Rattle.std.proofs.lemmas.List.FromFn.{length-range_with_len, get_or-range_with_len}
-use Rattle.quant.specs.Limits.{AreLimits}
 use Rattle.quant.specs.declared.limits.Limits.{Limits}
+use Rattle.quant.specs.Limits.{AreLimits}
 use Rattle.parts.specs.Parts.{FileParts}
 use Rattle.parts.specs.InRange.{IsUnitPart, AreInRange}
+use Rattle.parts.specs.declared.units.UnitPart.{UnitPart}
 use Rattle.parts.specs.declared.units.KindPart.{KindPart}
 use Rattle.parts.specs.declared.units.KindPart.TheVariants as part
-use Rattle.parts.specs.declared.units.UnitPart.{UnitPart}
-use Rattle.plant.specs.declared.streams.Stream.{Stream}
-use Rattle.plant.specs.declared.streams.StreamSource.TheVariants as source
-use Rattle.plant.specs.Streams.{Port, references_of, ports_of, port_streams, unit_streams, streams_of}
-use Rattle.plant.specs.Units.{limits_in, inputs_of, channel_limits, unit_limits, source_at, source_limits, made_unit, unit_from, units_from, units_of, gives_of, view_of, output_limits_of}
-use Rattle.plant.specs.Building.{each, source_check, port_check, own_limits_check, opening_check, column_check}
-use Rattle.plant.specs.Sound.{limits_at, IsOutput, IsSoundUnit, AreSoundFrom}
-use Rattle.plant.proofs.Passed.{ArePassed, passes-both}
-use Rattle.plant.proofs.OwnLimits.{plant-limits, own-limits, stream-limits}
-use Rattle.plant.proofs.Numbers.{AreFound, found-each, numbers-there, length-port_streams, AreRest, rest-all, rest-next, at-placed, below-placed}
-use Rattle.plant.proofs.Sources.{made-reads, unit-gives, port-at}
+use Rattle.plant_streams.specs.Streams.{streams_of, Port, port_streams, ports_of, unit_streams, references_of}
+use Rattle.plant_streams.specs.declared.streams.Stream.{Stream}
+use Rattle.plant_streams.specs.Limits.{limits_in, unit_limits, source_at, channel_limits, source_limits, limits_at}
+use Rattle.plant_streams.specs.declared.streams.StreamSource.TheVariants as source
+use Rattle.plant_checks.specs.Checks.{source_check, port_check, own_limits_check, opening_check, column_check, each}
+use Rattle.plant_checks.proofs.Passed.{passes-both, ArePassed}
+use Rattle.plant_units.specs.Units.{made_unit, output_limits_of, view_of, unit_from, gives_of, inputs_of, units_from, units_of}
+use Rattle.plant.proofs.Numbers.{AreRest, at-placed, length-port_streams, below-placed, AreFound, found-each, numbers-there, rest-next, rest-all}
+use Rattle.plant.proofs.Sources.{port-at, unit-gives, made-reads}
+use Rattle.plant.specs.Sound.{IsOutput, IsSoundUnit, AreSoundFrom}
 use Rattle.plant.proofs.Takes.{limits-at, HaveLimits, made-takes}
+use Rattle.plant.proofs.OwnLimits.{plant-limits, own-limits, stream-limits}
 use Rattle.plant.proofs.Starts.{made-starts, made-bands, made-sound}
 
 -- a unit in its ranges passes the checks

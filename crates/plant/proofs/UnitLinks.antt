@@ -1,18 +1,20 @@
 -- Units read units that are there.
-use Rattle.std.proofs.Common.{ℕ, zero, suc, ◌<◌, List, [], ◌∷◌, length, map, slice_index_or, Contains, subst, inl, inr, arith}
+use Rattle.std.proofs.Common.{ℕ, List, zero, suc, ◌<◌, length, Contains, subst, arith, [], ◌∷◌, inl, inr, map, slice_index_or}
 use Rattle.std.specs.Prelude.{flat_map}
 use Rattle.std.specs.List.{AllByRecursion}
-use Rattle.std.proofs.lemmas.List.{length-map}
 use Rattle.std.proofs.lemmas.List.Elements.{Contains-append_cases}
+use Rattle.std.proofs.lemmas.List.{length-map}
 use Rattle.topology.specs.Links.{AreLinks}
 use Rattle.parts.specs.Parts.{FileParts}
 use Rattle.parts.specs.InRange.{AreInRange}
-use Rattle.plant.specs.declared.streams.StreamSource.{StreamSource}
-use Rattle.plant.specs.declared.streams.StreamSource.TheVariants as source
-use Rattle.plant.specs.declared.units.Unit.{Unit}
-use Rattle.plant.specs.Streams.{streams_of}
-use Rattle.plant.specs.Units.{units_of, reads_of, is_instant, giver_in, source_at, links_of}
-use Rattle.plant.specs.Sound.{AreSoundFrom, IsSource}
+use Rattle.plant_streams.specs.Limits.{source_at}
+use Rattle.plant_streams.specs.declared.streams.StreamSource.{StreamSource}
+use Rattle.plant_streams.specs.declared.streams.StreamSource.TheVariants as source
+use Rattle.plant_streams.specs.Streams.{streams_of}
+use Rattle.plant_units.specs.Units.{units_of, reads_of, is_instant}
+use Rattle.plant_units.specs.declared.units.Unit.{Unit}
+use Rattle.plant.specs.PlantOf.{giver_in, links_of}
+use Rattle.plant.specs.Sound.{IsSource, AreSoundFrom}
 use Rattle.plant.proofs.Sources.{length-units_of}
 
 -- the units that give what a unit reads

@@ -1,15 +1,15 @@
 -- One verdict on parts at most.
-use Rattle.std.proofs.Common.{◌≡◌, ◌<◌, ◌≤◌, ◌⊎◌, ℕ, Ok, Err, refl, sym, ap, ◌∙◌, subst, inl, inr, arith}
+use Rattle.std.proofs.Common.{◌≤◌, ℕ, Ok, Err, ◌≡◌, ◌⊎◌, refl, sym, subst, inl, inr, ◌<◌, arith, ap, ◌∙◌}
 use Rattle.std.specs.Prelude.{slice_index}
 use Rattle.std.proofs.lemmas.Bool.{cases_lt}
 use Rattle.topology.specs.Links.{IsFirstLoop}
 use Rattle.topology.proofs.Ascents.{no_loop}
 use Rattle.parts.specs.Parts.{FileParts}
-use Rattle.plant.specs.declared.fault.PlantFault.{PlantFault}
-use Rattle.plant.specs.declared.fault.PlantFault.TheVariants as fault
-use Rattle.plant.specs.Units.{links_of, ranks_of}
-use Rattle.plant.specs.Building.{Checked, checked}
-use Rattle.plant.specs.Verdict.{IsVerdict, AreRanked, IsFirstDeep, unit_name}
+use Rattle.plant_checks.specs.declared.fault.PlantFault.TheVariants as fault
+use Rattle.plant_checks.specs.Checks.{Checked, checked}
+use Rattle.plant_checks.specs.declared.fault.PlantFault.{PlantFault}
+use Rattle.plant.specs.PlantOf.{links_of, ranks_of}
+use Rattle.plant.specs.Verdict.{AreRanked, IsFirstDeep, unit_name, IsVerdict}
 
 -- what is judged once the parts pass the checks
 data Judged (parts : FileParts) : Checked → Type 0 where

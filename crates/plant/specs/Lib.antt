@@ -1,8 +1,6 @@
-pub mod Seen
-pub mod Streams
-pub mod Units
-pub mod Building
+pub mod PlantOf
 pub mod Rows
+pub mod Seen
 pub mod Sound
-pub mod Verdict
 pub mod Steps
+pub mod Verdict

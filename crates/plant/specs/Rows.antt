@@ -1,13 +1,15 @@
 -- A row: the bands of a plant at one tick.
-use Rattle.std.specs.Prelude.{◌≡◌, ℕ, ◌<◌, pos, List, [], length, map, slice_index_or, slice_set}
-use Rattle.quant.specs.Interval.{Interval, AllInside, point}
+use Rattle.std.specs.Prelude.{List, ℕ, [], slice_index_or, slice_set, ◌≡◌, ◌<◌, length, map}
+use Rattle.quant.specs.Interval.{Interval, AllInside}
 use Rattle.flowsheet.specs.Plant.{unit_at}
 use Rattle.flowsheet.specs.Reading.{on_bands, inputs_of, stepped}
 use Rattle.flowsheet.specs.Run.{streams_at, run_states, run_streams}
 use Rattle.parts.specs.Parts.{FileParts}
 use Rattle.parts.specs.Given.{given_bands}
-use Rattle.plant.specs.Streams.{streams_of}
-use Rattle.plant.specs.Units.{units_of, opening_of, plant_of, carried_of, stream_limits}
+use Rattle.plant_streams.specs.Streams.{streams_of}
+use Rattle.plant_streams.specs.Limits.{all_limits, limits_at}
+use Rattle.plant_units.specs.Units.{units_of, opening_of}
+use Rattle.plant.specs.PlantOf.{plant_of, carried_of}
 
 -- the bands of each unit's states, and of each stream's channels
 pub record RowBands : Type 0 where
@@ -24,21 +26,13 @@ stream_in row s = slice_index_or row.streams s []
 abbrev pub set_band : RowBands → ℕ → ℕ → Interval → RowBands
 set_band row s c band = record { states = row.states; streams = slice_set row.streams s (slice_set (stream_in row s) c band) }
 
--- the limits of each stream's channels
-abbrev pub all_limits : FileParts → List (List Interval)
-all_limits parts = map (stream_limits parts) (streams_of parts)
-
--- the limit of a channel of a stream
-abbrev pub limit_at : FileParts → ℕ → ℕ → Interval
-limit_at parts s c = slice_index_or (slice_index_or (all_limits parts) s []) c (point (pos 0))
-
 -- A row of the plant: a band for each state and each channel. The states and the feeds are inside their limits.
 pub record IsRow (parts : FileParts) (row : RowBands) : Type 0 where
   pub counted : length row.states ≡ length (units_of parts)
   pub streams_counted : length row.streams ≡ length (streams_of parts)
-  pub channels : (s : ℕ) → s < length (streams_of parts) → length (stream_in row s) ≡ length (slice_index_or (all_limits parts) s [])
+  pub channels : (s : ℕ) → s < length (streams_of parts) → length (stream_in row s) ≡ length (limits_at parts s)
   pub states : (u : ℕ) → u < length (units_of parts) → AllInside (states_in row u) (unit_at (plant_of parts) u).state_limits
-  pub feeds : (f : ℕ) → f < length parts.feeds → AllInside (stream_in row f) (slice_index_or (all_limits parts) f [])
+  pub feeds : (f : ℕ) → f < length parts.feeds → AllInside (stream_in row f) (limits_at parts f)
 
 -- the row of the opening bands, in which each stream stands at its limits
 abbrev pub opening_row : FileParts → RowBands

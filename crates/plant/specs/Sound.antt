@@ -1,21 +1,19 @@
 -- What the checks of a plant's parts give: each unit meets what its steps ask for.
-use Rattle.std.specs.Prelude.{◌≡◌, ◌<◌, ◌≤◌, ℕ, suc, Ok, List, [], ◌∷◌, length, map, slice_index, slice_index_or, flat_map}
+use Rattle.std.specs.Prelude.{◌≡◌, ◌<◌, ℕ, length, List, [], slice_index, slice_index_or, flat_map, suc, ◌∷◌, map, ◌≤◌, Ok}
 use Rattle.std.specs.List.{AllByRecursion}
-use Rattle.quant.specs.Interval.{Interval, AllBands, AllInside}
+use Rattle.quant.specs.Interval.{Interval, AllInside, AllBands}
 use Rattle.quant.specs.Limits.{AreLimits}
 use Rattle.topology.specs.Links.{AreLinks, AreRanks}
 use Rattle.parts.specs.Parts.{FileParts}
 use Rattle.parts.specs.InRange.{AreInRange}
-use Rattle.plant.specs.declared.streams.StreamSource.{StreamSource}
-use Rattle.plant.specs.declared.streams.StreamSource.TheVariants as source
-use Rattle.plant.specs.declared.units.Unit.{Unit}
-use Rattle.plant.specs.Streams.{streams_of}
-use Rattle.plant.specs.Units.{units_of, reads_of, gives_of, view_of, opening_of, state_limits_of, output_limits_of, IsUnitSound, MayTake, source_at, source_limits, stream_limits, links_of, ranks_of}
-use Rattle.plant.specs.Building.{checked}
-
--- the limits of the channels of the stream with this number
-abbrev pub limits_at : FileParts → ℕ → List Interval
-limits_at parts s = slice_index_or (map (stream_limits parts) (streams_of parts)) s []
+use Rattle.plant_streams.specs.declared.streams.StreamSource.TheVariants as source
+use Rattle.plant_streams.specs.Streams.{streams_of}
+use Rattle.plant_streams.specs.Limits.{source_at, limits_at, source_limits}
+use Rattle.plant_streams.specs.declared.streams.StreamSource.{StreamSource}
+use Rattle.plant_checks.specs.Checks.{checked}
+use Rattle.plant_units.specs.declared.units.Unit.{Unit}
+use Rattle.plant_units.specs.Units.{reads_of, gives_of, view_of, opening_of, state_limits_of, output_limits_of, IsUnitSound, MayTake, units_of}
+use Rattle.plant.specs.PlantOf.{links_of, ranks_of, most_rank}
 
 -- the stream is the output of a unit with this number
 abbrev pub IsOutput : FileParts → ℕ → ℕ → ℕ → Type 0
@@ -64,9 +62,9 @@ pub record ArePartsSound (parts : FileParts) : Type 0 where
   pub links : AreLinks (links_of parts)
 
 -- What a built plant keeps of its parts: they are in range and pass the checks; no instant unit reaches itself, so the ranks are
--- ranks; and none is above 16.
+-- ranks; and none is too great.
 pub record IsPlant (parts : FileParts) : Type 0 where
   pub ranges : AreInRange parts
   pub passes : checked parts ≡ Ok tt
   pub ranked : AreRanks (links_of parts) (ranks_of parts)
-  pub shallow : (u : ℕ) → slice_index (ranks_of parts) u ≤ 16
+  pub shallow : (u : ℕ) → slice_index (ranks_of parts) u ≤ most_rank

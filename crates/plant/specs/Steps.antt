@@ -1,73 +1,21 @@
--- One unit's part of a tick: what it shows, and what it steps to.
-use Rattle.std.specs.Prelude.{◌≡◌, ◌==◌, ◌≤◌, ◌<◌, ◌⊎◌, ℕ, true, List, [], ◌∷◌, length, take, drop, max, fold, slice_index, slice_index_or, slice_set, flat_map, if◌then◌else◌}
-use Rattle.std.specs.List.{AllByRecursion}
+-- Words of the proofs: a reader of the contracts needs none of them.
+-- The units' parts of a tick, one after another.
+use Rattle.std.specs.Prelude.{ℕ, slice_index, List, max, fold, ◌≡◌, true, ◌==◌, if◌then◌else◌, ◌<◌, length, ◌⊎◌, ◌≤◌}
 use Rattle.quant.specs.Interval.{Interval, AllInside}
-use Rattle.quant.specs.Rounding.{Floor}
-use Rattle.quant.specs.Term.{intervals}
-use Rattle.quant.specs.Ports.{outputs}
-use Rattle.flowsheet.specs.Plant.{unit_at}
 use Rattle.flowsheet.specs.Reading.{on_bands, inputs_of, shown, stepped}
 use Rattle.flowsheet.specs.Run.{streams_at}
+use Rattle.flowsheet.specs.Plant.{unit_at}
 use Rattle.parts.specs.Parts.{FileParts}
 use Rattle.parts.specs.Given.{given_bands}
-use Rattle.plant.specs.declared.streams.StreamSource.{StreamSource}
-use Rattle.plant.specs.declared.streams.StreamSource.TheVariants as source
-use Rattle.plant.specs.declared.units.Unit.{Unit}
-use Rattle.plant.specs.Streams.{streams_of}
-use Rattle.plant.specs.Units.{units_of, plant_of, ranks_of, source_at, reads_of, gives_of, is_instant, next_of, view_of, state_limits_of, output_limits_of, IsUnitSound, MayTake}
-use Rattle.plant.specs.Rows.{IsRow, all_limits}
+use Rattle.plant_streams.specs.declared.streams.StreamSource.{StreamSource}
+use Rattle.plant_streams.specs.declared.streams.StreamSource.TheVariants as source
+use Rattle.plant_streams.specs.Streams.{streams_of}
+use Rattle.plant_streams.specs.Limits.{source_at, limits_at}
+use Rattle.plant_units.specs.Steps.{bands_at}
+use Rattle.plant_units.specs.Units.{units_of}
+use Rattle.plant.specs.PlantOf.{ranks_of, plant_of}
 use Rattle.plant.specs.Sound.{AreInside}
-
--- the bands in one place of many
-abbrev pub bands_at : List (List Interval) → ℕ → List Interval
-bands_at rows n = slice_index_or rows n []
-
--- the channels of the streams with these numbers, one after another
-abbrev pub gathered : List ℕ → List (List Interval) → List Interval
-gathered numbers streams = flat_map (bands_at streams) numbers
-
--- the streams, with these bands in the channels of those with these numbers, one after another
-abbrev pub spread : List ℕ → List Interval → List (List Interval) → List (List Interval)
-spread [] bands streams = streams
-spread (s ∷ rest) bands streams =
-    spread rest (drop (length (bands_at streams s)) bands) (slice_set streams s (take (length (bands_at streams s)) bands))
-
--- there are such streams, and a band for each of their channels
-abbrev pub HasRoom : List ℕ → List Interval → List (List Interval) → Type 0
-HasRoom [] bands streams = Prim.Unit {0}
-HasRoom (s ∷ rest) bands streams =
-    (s < length streams) × (length (bands_at streams s) ≤ length bands)
-    × HasRoom rest (drop (length (bands_at streams s)) bands) (slice_set streams s (take (length (bands_at streams s)) bands))
-
--- how many channels its outputs have
-abbrev pub width_of : Unit → ℕ
-width_of x = length (outputs (output_limits_of x))
-
--- what a unit shows, its outputs one after another: from its states, or from its inputs where it holds nothing back
-unfoldable pub views : Unit → List Interval → List Interval → List Interval
-views x state ins = intervals Floor (outputs (view_of x)) (if is_instant x then [] else state) (if is_instant x then ins else [])
-
--- its states at the next tick
-unfoldable pub steps : Unit → List Interval → List Interval → List Interval
-steps x state ins = intervals Floor (next_of x) state ins
-
--- a unit may show itself from these states and streams
-pub record MayShow (x : Unit) (state : List Interval) (streams : List (List Interval)) : Type 0 where
-  pub sound : IsUnitSound x
-  pub states : AllInside state (state_limits_of x)
-  pub known : AllByRecursion (λ s. s < length streams) (reads_of x)
-  pub inputs : is_instant x ≡ true → MayTake x (gathered (reads_of x) streams)
-
--- the streams after it has
-abbrev pub shows : Unit → List Interval → List (List Interval) → List (List Interval)
-shows x state streams = spread (gives_of x) (views x state (gathered (reads_of x) streams)) streams
-
--- a unit may step from these states and streams
-pub record MayStep (x : Unit) (state : List Interval) (streams : List (List Interval)) : Type 0 where
-  pub sound : IsUnitSound x
-  pub states : AllInside state (state_limits_of x)
-  pub known : AllByRecursion (λ s. s < length streams) (reads_of x)
-  pub inputs : MayTake x (gathered (reads_of x) streams)
+use Rattle.plant.specs.Rows.{IsRow}
 
 -- the rank of a unit
 abbrev pub rank_at : FileParts → ℕ → ℕ
@@ -144,7 +92,7 @@ pub record HaveStepped (parts : FileParts) (n : ℕ) (streams before after : Lis
 -- as many streams as the plant has, each with its channels
 pub record HasChannels (parts : FileParts) (streams : List (List Interval)) : Type 0 where
   pub counted : length streams ≡ length (streams_of parts)
-  pub channels : (s : ℕ) → s < length (streams_of parts) → length (bands_at streams s) ≡ length (bands_at (all_limits parts) s)
+  pub channels : (s : ℕ) → s < length (streams_of parts) → length (bands_at streams s) ≡ length (limits_at parts s)
 
 -- the feeds below n have their bands at this tick
 pub record HaveGiven (parts : FileParts) (tick n : ℕ) (before after : List (List Interval)) : Type 0 where
@@ -154,4 +102,4 @@ pub record HaveGiven (parts : FileParts) (tick n : ℕ) (before after : List (Li
 
 -- the bands of each feed are inside its limits
 pub record AreFed (parts : FileParts) : Type 0 where
-  pub fed : (tick f : ℕ) → f < length parts.feeds → AllInside (given_bands parts tick f) (bands_at (all_limits parts) f)
+  pub fed : (tick f : ℕ) → f < length parts.feeds → AllInside (given_bands parts tick f) (limits_at parts f)

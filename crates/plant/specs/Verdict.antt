@@ -1,36 +1,33 @@
 -- The verdict on a plant's parts: they are a plant, or this is the first refusal.
-use Rattle.std.specs.Prelude.{◌≡◌, ◌<◌, ◌≤◌, ℕ, List, [], length, map, slice_index, slice_index_or, Result, Ok, Err}
+use Rattle.std.specs.Prelude.{ℕ, List, [], map, slice_index_or, ◌<◌, ◌≤◌, length, slice_index, ◌≡◌, Ok, Err, Result}
 use Rattle.topology.specs.Links.{AreRanks, IsFirstLoop}
 use Rattle.parts.specs.Parts.{FileParts}
-use Rattle.plant.specs.declared.fault.PlantFault.TheVariants as fault
-use Rattle.plant.specs.declared.fault.Unbuilt.{Unbuilt}
-use Rattle.plant.specs.declared.fault.Unbuilt.TheVariants as unbuilt
-use Rattle.plant.specs.declared.streams.Stream.{Stream}
-use Rattle.plant.specs.declared.units.Unit.{Unit}
-use Rattle.plant.specs.Streams.{streams_of}
-use Rattle.plant.specs.Units.{units_of, links_of, ranks_of}
-use Rattle.plant.specs.Building.{Checked, checked}
+use Rattle.plant_streams.specs.declared.streams.Stream.{Stream}
+use Rattle.plant_streams.specs.Streams.{streams_of}
+use Rattle.plant_checks.specs.declared.fault.PlantFault.TheVariants as fault
+use Rattle.plant_checks.specs.Checks.{Checked, checked}
+use Rattle.plant_checks.specs.declared.fault.Unbuilt.{Unbuilt}
+use Rattle.plant_checks.specs.declared.fault.Unbuilt.TheVariants as unbuilt
+use Rattle.plant_units.specs.declared.units.Unit.{Unit}
+use Rattle.plant_units.specs.Units.{units_of}
+use Rattle.plant.specs.PlantOf.{links_of, ranks_of, most_rank}
 use Rattle.plant.specs.Sound.{IsPlant}
 
 -- the name of the unit with this number
 abbrev pub unit_name : FileParts → ℕ → List ℕ
 unit_name parts u = slice_index_or (map (λ unit_part. unit_part.name) parts.units) u []
 
--- the greatest rank that a unit may have
-abbrev pub most_rank : ℕ
-most_rank = 16
-
 -- the ranks are ranks: no instant unit reaches itself through instant units alone
 abbrev pub AreRanked : FileParts → Type 0
 AreRanked parts = AreRanks (links_of parts) (ranks_of parts)
 
--- the first unit of a rank above 16
+-- the first unit of too great a rank
 pub record IsFirstDeep (parts : FileParts) (u : ℕ) : Type 0 where
   pub there : u < length parts.units
   pub deep : most_rank < slice_index (ranks_of parts) u
   pub first : (v : ℕ) → v < u → slice_index (ranks_of parts) v ≤ most_rank
 
--- The parts pass the checks, and then the ranks are judged: whether there are any, and whether one is above 16.
+-- The parts pass the checks, and then the ranks are judged: whether there are any, and whether one is too great.
 abbrev pub IsVerdict : FileParts → Checked → Type 0
 IsVerdict parts (Ok done) = (checked parts ≡ Ok tt) × AreRanked parts × ((u : ℕ) → slice_index (ranks_of parts) u ≤ most_rank)
 IsVerdict parts (Err (fault.InstantLoop name)) = (checked parts ≡ Ok tt) × ((u : ℕ) × IsFirstLoop (links_of parts) u × (name ≡ unit_name parts u))

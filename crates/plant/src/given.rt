@@ -6,8 +6,8 @@ ghost use Rattle.plant.specs.Steps.{HasChannels, HaveGiven, AreFed};
 
 use crate::laws::built_plants_are_plants;
 use crate::plant::Plant;
-use crate::units::Bands;
 use parts::{FeedKind, FeedPart};
+use plant_units::Bands;
 
 /// Gives a feed's stream its bands at a tick.
 #[tactic(auto, unfolding(parts::specs::Given::kind_bands))]

@@ -1,14 +1,15 @@
-ghost use Rattle.std.specs.Prelude.{◌≡◌, ◌<◌, ℕ, suc, Ok, length, [], slice_index_or};
+ghost use Rattle.std.specs.Prelude.{◌≡◌, ◌<◌, ℕ, suc, Ok, length};
 ghost use Rattle.quant.specs.Interval.{AllInside};
 ghost use Rattle.flowsheet.specs.Plant.{IsRanked};
 ghost use Rattle.flowsheet.specs.Limited.{AreBands, IsLimited};
 ghost use Rattle.parts.specs.Parts.{FileParts};
 ghost use Rattle.parts.specs.InRange.{AreInRange};
 ghost use Rattle.parts.specs.Given.{given_bands};
-ghost use Rattle.plant.specs.Building.{Checked, checked};
+ghost use Rattle.plant_checks.specs.Checks.{Checked, checked};
 ghost use Rattle.plant.specs.Verdict.{IsVerdict};
-ghost use Rattle.plant.specs.Units.{plant_of, carried_of};
-ghost use Rattle.plant.specs.Rows.{RowBands, opening_row, all_limits, IsStep, HasStatesOf, HasFeedsOf, HasStreamsOf};
+ghost use Rattle.plant.specs.PlantOf.{plant_of, carried_of};
+ghost use Rattle.plant.specs.Rows.{RowBands, opening_row, IsStep, HasStatesOf, HasFeedsOf, HasStreamsOf};
+ghost use Rattle.plant_streams.specs.Limits.{limits_at};
 ghost use Rattle.plant.specs.Sound.{ArePartsSound, IsPlant};
 
 /// In parts that pass the checks each unit meets what its steps ask for.
@@ -35,7 +36,7 @@ pub fn built_plants_are_plants()
         AreBands (plant_of parts) (carried_of parts) (given_bands parts) n }
     ensures fed { (parts : FileParts) → IsPlant parts →
         (tick f : ℕ) → f < length parts.feeds →
-        AllInside (given_bands parts tick f) (slice_index_or (all_limits parts) f []) }
+        AllInside (given_bands parts tick f) (limits_at parts f) }
 {}
 
 /// Steps that begin with the opening states, each from the bands that are given at its tick, make the interval run.

@@ -2,23 +2,20 @@
 #![tactic(auto)]
 
 mod build;
-mod fault;
 mod given;
 mod laws;
 mod limits;
 mod opening;
 mod plant;
 mod rows;
-mod steps;
-mod streams;
-mod units;
+mod tick;
 
-pub use fault::{PlantFault, Unbuilt};
 pub use laws::{
     built_plants_are_plants, checked_parts_are_sound, direct_steps_make_the_run,
     verdicts_are_unique, verdicts_exist,
 };
 pub use plant::Plant;
+pub use plant_checks::{PlantFault, Unbuilt};
+pub use plant_streams::{Stream, StreamSource};
+pub use plant_units::{Bands, StreamNumbers, Unit};
 pub use rows::Row;
-pub use streams::{Stream, StreamSource};
-pub use units::{Bands, StreamNumbers, Unit};

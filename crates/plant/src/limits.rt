@@ -1,64 +1,23 @@
-ghost use Rattle.std.specs.Prelude.{◌≡◌, ◌<◌, [], length, slice_index_or, pos};
-ghost use Rattle.quant.specs.Interval.{point};
-ghost use Rattle.plant.specs.Streams.{streams_of};
-ghost use Rattle.plant.specs.Units.{limits_in, channel_limits, source_limits};
-ghost use Rattle.plant.specs.Rows.{all_limits, limit_at};
+//! The limits of a plant's channels.
+
+ghost use Rattle.std.specs.Prelude.{◌≡◌, ◌<◌, length};
+ghost use Rattle.plant_streams.specs.Streams.{streams_of};
+ghost use Rattle.plant_streams.specs.Limits.{limits_at, limit_at};
 
 use crate::plant::Plant;
-use crate::streams::StreamSource;
-use parts::{OwnLimits, Parts};
-use quant::{Band, Limits};
-
-/// A unit's own limits in place of the plant's.
-#[tactic(auto, unfolding(crate::specs::Units::limits_in))]
-pub(crate) fn limits_in(limits: Limits, own: OwnLimits) -> Limits
-    ensures { result ≡ limits_in limits own }
-{
-    Limits {
-        flow: own.flow.unwrap_or(limits.flow),
-        conc: own.conc.unwrap_or(limits.conc),
-        temp: own.temp.unwrap_or(limits.temp),
-        volume: own.volume.unwrap_or(limits.volume),
-        signal: own.signal.unwrap_or(limits.signal),
-    }
-}
-
-/// The limit of a channel of a stream, by the limits of its plant or its unit.
-fn channel_limit(limits: Limits, signal: bool, channel: u32) -> Band
-    requires { channel < length (channel_limits limits signal) }
-    ensures { result ≡ slice_index_or (channel_limits limits signal) channel (point (pos 0)) }
-{
-    match (signal, channel) {
-        (true, _) => limits.signal,
-        (false, 0) => limits.flow,
-        (false, 1) => limits.conc,
-        (false, _) => limits.temp,
-    }
-}
-
-/// The limits of a stream's channels: the plant's for a feed, its unit's for an output.
-pub(crate) fn source_limits(parts: &Parts, source: StreamSource) -> Limits
-    ensures { result ≡ source_limits parts.now source }
-{
-    let units = parts.units.as_slice();
-    match source {
-        StreamSource::Port { unit, .. } if (unit as usize) < units.len() => {
-            limits_in(parts.limits, units[unit as usize].limits)
-        }
-        _ => parts.limits,
-    }
-}
+use plant_streams::{channel_limit, source_limits};
+use quant::Band;
 
 impl Plant {
     /// The limit of a stream's channel: the plant's for a feed, its unit's for an output.
     pub fn limit(&self, stream: u32, channel: u32) -> Band
         requires stream { stream < length (streams_of self.now) }
-        requires channel { channel < length (slice_index_or (all_limits self.now) stream []) }
+        requires channel { channel < length (limits_at self.now stream) }
         ensures { result ≡ limit_at self.now stream channel }
     {
         let stream = &self.streams()[stream as usize];
         channel_limit(
-            source_limits(&self.parts, stream.source),
+            source_limits(self.parts(), stream.source),
             stream.signal,
             channel,
         )

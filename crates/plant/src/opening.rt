@@ -1,13 +1,12 @@
 //! The row that a plant starts from.
 
 ghost use Rattle.std.specs.Prelude.{◌≡◌, map, IfOk};
-ghost use Rattle.plant.specs.Units.{units_of, opening_of, stream_limits};
-ghost use Rattle.plant.specs.Rows.{all_limits};
+ghost use Rattle.plant_units.specs.Units.{units_of, opening_of};
+ghost use Rattle.plant_streams.specs.Limits.{stream_limits, all_limits};
 
-use crate::limits::source_limits;
 use crate::plant::Plant;
-use crate::streams::Stream;
-use crate::units::Bands;
+use plant_streams::{Stream, source_limits};
+use plant_units::Bands;
 use std::alloc::{AllocError, Global};
 
 impl Plant {

@@ -1,6 +1,6 @@
-use crate::streams::Stream;
-use crate::units::Unit;
 use parts::Parts;
+use plant_streams::Stream;
+use plant_units::Unit;
 use std::marker::Model;
 
 /// A plant that was built of its parts: its streams, its units and their ranks. It is seen as its parts, which determine the
@@ -25,10 +25,11 @@ impl Model for Plant {
 }
 
 impl Plant {
-    ghost use Rattle.std.specs.Prelude.{◌≡◌};
+    ghost use Rattle.std.specs.Prelude.{◌≡◌, length};
     ghost use Rattle.plant.specs.Sound.{IsPlant};
-    ghost use Rattle.plant.specs.Streams.{streams_of};
-    ghost use Rattle.plant.specs.Units.{units_of, ranks_of};
+    ghost use Rattle.plant_streams.specs.Streams.{streams_of};
+    ghost use Rattle.plant_units.specs.Units.{units_of};
+    ghost use Rattle.plant.specs.PlantOf.{ranks_of};
 
     /// The parts that it was built from.
     pub fn parts(&self) -> &Parts
@@ -53,8 +54,10 @@ impl Plant {
     }
 
     /// The rank of each unit: 0 where it holds something back, and else 1 plus the greatest rank among the units that it reads.
+    #[tactic(auto, using(crate::proofs::Ranked::plant_ranks_counted))]
     pub fn ranks(&self) -> &[u32]
-        ensures { result.now ≡ ranks_of self.now }
+        ensures ranks { result.now ≡ ranks_of self.now }
+        ensures counted { length (ranks_of self.now) ≡ length (units_of self.now) }
     {
         self.ranks.as_slice()
     }

@@ -1,10 +1,11 @@
 ghost use Rattle.std.specs.Prelude.{◌≡◌, ◌<◌, length, slice_index_or, IfOk, pos};
 ghost use Rattle.quant.specs.Interval.{IsInside, point};
 ghost use Rattle.parts.specs.Parts.{FileParts};
-ghost use Rattle.plant.specs.Rows.{stream_in, set_band, limit_at, opening_row, IsRow, IsStep, HasFeedsOf};
+ghost use Rattle.plant.specs.Rows.{stream_in, set_band, opening_row, IsRow, IsStep, HasFeedsOf};
+ghost use Rattle.plant_streams.specs.Limits.{limit_at};
 
 use crate::plant::Plant;
-use crate::units::Bands;
+use plant_units::Bands;
 use quant::Band;
 use std::alloc::{AllocError, Global};
 use std::marker::Model;

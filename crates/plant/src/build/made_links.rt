@@ -1,11 +1,12 @@
 //! Which units of a plant are instant, and which units each reads.
 
 ghost use Rattle.std.specs.Prelude.{◌≡◌, map, IfOk};
-ghost use Rattle.plant.specs.Units.{is_instant, reads_of};
-ghost use Rattle.plant.specs.Seen.{source_seen, givers_seen, links_seen};
+ghost use Rattle.plant_units.specs.Units.{is_instant, reads_of};
+ghost use Rattle.plant_streams.specs.Seen.{source_seen};
+ghost use Rattle.plant.specs.Seen.{givers_seen, links_seen};
 
-use crate::streams::{Stream, StreamSource};
-use crate::units::Unit;
+use plant_streams::{Stream, StreamSource};
+use plant_units::Unit;
 use std::alloc::{AllocError, Global};
 use topology::Links;
 

@@ -3,19 +3,20 @@
 ghost use Rattle.std.specs.Prelude.{◌≡◌, ◌<◌, ◌≤◌, ℕ, length, slice_index, Ok, IfOk, IfErr, IfSome, IfNone};
 ghost use Rattle.topology.specs.Links.{AreRanks};
 ghost use Rattle.topology.specs.Faults.{IsRankFault};
-ghost use Rattle.plant.specs.Streams.{streams_of};
-ghost use Rattle.plant.specs.Units.{units_of, links_of, ranks_of};
-ghost use Rattle.plant.specs.Building.{checked};
-ghost use Rattle.plant.specs.Verdict.{Builds, unit_name, most_rank};
+ghost use Rattle.plant_streams.specs.Streams.{streams_of};
+ghost use Rattle.plant_units.specs.Units.{units_of};
+ghost use Rattle.plant.specs.PlantOf.{links_of, ranks_of, most_rank};
+ghost use Rattle.plant_checks.specs.Checks.{checked};
+ghost use Rattle.plant.specs.Verdict.{Builds, unit_name};
 ghost use Rattle.plant.specs.Seen.{IsFirstAbove};
 
-use super::made_links::links_of;
-use crate::fault::{PlantFault, Unbuilt};
+use crate::build::made_links::links_of;
 use crate::laws::checked_parts_are_sound;
-use crate::streams::Stream;
-use crate::units::Unit;
 use parts::Parts;
+use plant_checks::{PlantFault, Unbuilt};
 use plant_names::Text;
+use plant_streams::Stream;
+use plant_units::Unit;
 use std::alloc::{AllocError, Global};
 use topology::{RankFault, ranks, ranks_are_found};
 

@@ -13,7 +13,7 @@ returns-in_err-write_piece g c =
     let ended = rw c.rank_header.ensures at c.in_err-write_piece.ensures.ended in
     let end = c.in_err-write_piece.field-0.0 in
     first-broke Check parts (check_course parts) rank_header (rank_rows parts) _ end _
-    (this-end c.from_residual.result end c.from_residual.ensures.1) (check-work parts c.is_plant.ensures.plant)
+    (this-end c.from_residual.result end c.from_residual.ensures.1) (check-work parts c.requires)
     refl (check-writes (rank_rows parts)) ended
 
 pub returns-in_err-rows : goal.returns-in_err-rows
@@ -22,7 +22,7 @@ returns-in_err-rows g c =
     let given = rw c.rank_header.ensures at c.in_ok-write_piece.ensures.ended in
     header-stands Check parts (check_course parts) rank_header (rank_rows parts) _ _
     (this-end c.from_residual-in_err-rows.result NoMemory c.from_residual-in_err-rows.ensures.1)
-    (check-work parts c.is_plant.ensures.plant) refl check-header (omega arith) given
+    (check-work parts c.requires) refl check-header (omega arith) given
 
 pub returns : goal.returns
 returns g c =
@@ -30,5 +30,5 @@ returns g c =
     let given = rw c.rank_header.ensures at c.in_ok-write_piece.ensures.ended in
     let last = rw (c.deref.ensures.value, c.in_ok-rows.ensures) at c.write_piece-2.ensures.ended in
     second-ended Check parts (check_course parts) rank_header (rank_rows parts) _ _ _ _ _ _ c.write_piece-2.result
-    (check-work parts c.is_plant.ensures.plant) refl (check-writes (rank_rows parts)) refl given
+    (check-work parts c.requires) refl (check-writes (rank_rows parts)) refl given
     c.in_ok-write_piece.ensures.counted last

@@ -1,8 +1,8 @@
 use Rattle.std.proofs.Common.{◌<◌, ℕ, length, subst, sym}
 use Rattle.std.proofs.lemmas.List.{length-map}
 use Rattle.parts.specs.Parts.{FileParts}
-use Rattle.plant.specs.Streams.{streams_of}
-use Rattle.plant.specs.Units.{plant_of, origin_in}
+use Rattle.plant_streams.specs.Streams.{streams_of}
+use Rattle.plant.specs.PlantOf.{plant_of, origin_in}
 use Rattle.flow_top.proofs.laws.printed_bands_hold_trajectories.Goals as goal
 
 -- the plant has a stream for each of the parts' streams

@@ -19,4 +19,4 @@ returns-in-Err-Fault-build c =
 pub returns : goal.returns
 returns c =
     let read : parts_in c.args.text.now ≡ Ok c.in-Ok-build.plant = c.in-Ok.ensures ∙ ap Ok (sym c.in-Ok-build.ensures.same) in
-    built-judged c.args.text.now c.in-Ok-build.plant c.requires read c.parts.ensures.plant
+    built-judged c.args.text.now c.in-Ok-build.plant c.requires read c.in-Ok-build.ensures.plant

@@ -1,5 +1,5 @@
 use Rattle.std.proofs.Common.{◌≡◌, map, take}
-use Rattle.plant.specs.Units.{is_instant}
+use Rattle.plant_units.specs.Units.{is_instant}
 use Rattle.plant.proofs.build.made_links.instant_of.Given as goal
 
 -- the answers so far

@@ -1,5 +1,5 @@
 use Rattle.std.proofs.Common.{◌≡◌, map, take}
-use Rattle.plant.specs.Units.{reads_of}
+use Rattle.plant_units.specs.Units.{reads_of}
 use Rattle.plant.specs.Seen.{givers_seen}
 use Rattle.plant.proofs.build.made_links.reads_of.Given as goal
 

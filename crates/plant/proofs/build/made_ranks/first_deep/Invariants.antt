@@ -1,5 +1,5 @@
 use Rattle.std.proofs.Common.{ℕ, ◌<◌, ◌≤◌, slice_index}
-use Rattle.plant.specs.Verdict.{most_rank}
+use Rattle.plant.specs.PlantOf.{most_rank}
 use Rattle.plant.proofs.build.made_ranks.first_deep.Given as goal
 
 -- no rank so far is above 16

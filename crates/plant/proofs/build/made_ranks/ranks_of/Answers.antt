@@ -1,6 +1,6 @@
 use Rattle.std.proofs.Common.{subst}
 use Rattle.topology.specs.Faults.{IsRankFault}
-use Rattle.plant.specs.Units.{links_of}
+use Rattle.plant.specs.PlantOf.{links_of}
 use Rattle.plant.proofs.BuildVerdicts.{loop_there}
 use Rattle.plant.proofs.build.made_ranks.ranks_of.Goals as goal
 

@@ -17,7 +17,7 @@ loop-rank-preserved c = (
 pub returns : goal.returns
 returns c =
     let parts = c.args.self.now in
-    let most = c.greatest_rank-greatest.ensures ∙ ap greatest c.ranks.ensures in
+    let most = c.greatest_rank-greatest.ensures ∙ ap greatest c.ranks.ensures.ranks in
     are-shown parts c.args.states.now c.args.streams.now c.loop-rank.streams c.sound.ensures c.ranked.ensures.ranked c.loop-rank.invariant.1
     (subst (λ r. HaveShown parts r 0 c.args.states.now c.loop-rank.streams)
     (omega (arith, c.loop-rank-test.false, c.loop-rank.auto.rank-end, most)) c.loop-rank.invariant.0)

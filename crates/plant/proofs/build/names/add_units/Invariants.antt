@@ -1,7 +1,0 @@
-use Rattle.std.proofs.Common.{◌≡◌, ◌++◌, map, take}
-use Rattle.plant.specs.Seen.{name_seen}
-use Rattle.plant.proofs.build.names.add_units.Given as goal
-
--- the names so far
-abbrev pub invariant-loop-unit : goal.invariant-loop-unit
-invariant-loop-unit l = map name_seen l.names.items ≡ map name_seen l.fn.names.items ++ map (λ unit. unit.name) (take l.unit-index l.units)

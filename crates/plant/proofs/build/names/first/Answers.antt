@@ -1,7 +1,0 @@
-use Rattle.std.proofs.Common.{sym}
-use Rattle.std.proofs.lemmas.List.{take-map}
-use Rattle.plant.specs.Seen.{name_seen}
-use Rattle.plant.proofs.build.names.first.Goals as goal
-
-pub returns-then-count-names : goal.returns-then-count-names
-returns-then-count-names c = sym (take-map name_seen c.args.count c.args.names.now)

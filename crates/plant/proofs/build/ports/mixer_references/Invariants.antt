@@ -1,8 +1,0 @@
-use Rattle.std.proofs.Common.{◌≡◌, ◌++◌, map, drop}
-use Rattle.plant.specs.Streams.{mixer_references}
-use Rattle.plant.specs.Seen.{reference_seen}
-use Rattle.plant.proofs.build.ports.mixer_references.Given as goal
-
--- the references so far, and those of the inputs that are left
-abbrev pub invariant-loop-index : goal.invariant-loop-index
-invariant-loop-index l = map reference_seen l.references.items ++ mixer_references l.index (drop l.index l.inputs) ≡ mixer_references 0 l.inputs

@@ -1,5 +1,0 @@
-use Rattle.plant.proofs.Spreads.{IsGathering}
-use Rattle.plant.proofs.steps.gather.Given as goal
-
-abbrev pub invariant-loop-number : goal.invariant-loop-number
-invariant-loop-number l = IsGathering l.numbers l.streams l.number-index l.place l.ins

@@ -1,9 +1,0 @@
--- A reactor steps as its kind does.
-use Rattle.std.proofs.Common.{sym, ap, ◌∙◌}
-use Rattle.plant.specs.declared.units.Unit.{Unit}
-use Rattle.plant.specs.Steps.{steps}
-use Rattle.plant.proofs.units.Unit.next.Goals as goal
-
-pub returns-in-Reactor : goal.returns-in-Reactor
-unfolding steps
-returns-in-Reactor c = c.next_states-in-Reactor.ensures ∙ sym (ap (λ (x : Unit). steps x c.args.state.now c.args.ins.now) c.in-Reactor.is)

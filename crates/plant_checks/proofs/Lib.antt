@@ -1,0 +1,5 @@
+pub mod Checks
+pub mod Passed
+pub mod Products
+pub mod Rates
+pub mod Refusals

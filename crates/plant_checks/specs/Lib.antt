@@ -1,0 +1,4 @@
+pub mod Checks
+pub mod Groups
+pub mod Openings
+pub mod Seen

@@ -1,0 +1,3 @@
+pub mod AllKinds
+pub mod Spreads
+pub mod UnitLimits
