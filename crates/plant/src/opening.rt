@@ -11,7 +11,7 @@ use std::alloc::{AllocError, Global};
 
 impl Plant {
     /// The opening bands of each unit's states.
-    pub(crate) fn opening_states(&self, alloc: Global) -> Result<Vec<Bands>, AllocError>
+    pub fn opening_states(&self, alloc: Global) -> Result<Vec<Bands>, AllocError>
         ensures { IfOk result (λ made. made.items ≡ map opening_of (units_of self.now)) }
     {
         let mut made = Vec::new(alloc);

@@ -1,0 +1,10 @@
+//! One unit's renewal over a window of ticks, from a tube for each stream that it reads. No other unit is looked at.
+#![tactic(auto)]
+
+mod carried;
+mod laws;
+mod plan;
+
+pub use carried::Carried;
+pub use laws::windows_are_open;
+pub use plan::WindowPlan;
