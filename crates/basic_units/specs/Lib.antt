@@ -1,8 +1,12 @@
+pub mod Limited
 pub mod Mixer
 pub mod MixerLaws
 pub mod Reactor
 pub mod ReactorLaws
 pub mod Splitter
 pub mod SplitterLaws
+pub mod Stirring
+pub mod Stream
 pub mod Tank
 pub mod TankLaws
+pub mod Vessel

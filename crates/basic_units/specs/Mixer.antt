@@ -3,6 +3,7 @@ use Rattle.std.specs.Prelude.{ℕ, zero, suc, ◌+◌, ◌-◌, ◌*◌, ◌≤�
 use Rattle.quant.specs.Interval.{Interval, wide}
 use Rattle.quant.specs.Limits.{AreLimits, wide_from}
 use Rattle.quant.specs.Term.{Term, input, sum, mix_of, clamped}
+use Rattle.basic_units.specs.Stream.{stream_limits}
 use Rattle.basic_units.specs.declared.mixer.Mixer.{Mixer}
 
 -- the flow of the first stream and n further ones
@@ -19,11 +20,12 @@ content_of channel (suc n) = mix_of (content_of channel n) (input (3 * suc n + c
 abbrev pub now_terms : Mixer → List (List Term)
 now_terms mixer =
     let further = mixer.inputs - 1 in
-    (clamped mixer.limits.flow (flow_of further) ∷ clamped mixer.limits.conc (content_of 1 further) ∷ clamped mixer.limits.temp (content_of 2 further) ∷ [])
+    (clamped mixer.limits.flow (flow_of further) ∷ clamped mixer.limits.conc (content_of 1 further)
+    ∷ clamped mixer.limits.temp (content_of 2 further) ∷ [])
     ∷ []
 
 abbrev pub output_limits : Mixer → List (List Interval)
-output_limits mixer = (mixer.limits.flow ∷ mixer.limits.conc ∷ mixer.limits.temp ∷ []) ∷ []
+output_limits mixer = stream_limits mixer.limits ∷ []
 
 -- where the channels of n streams may lie: no flow is negative
 abbrev pub streams : ℕ → List Interval

@@ -5,11 +5,9 @@ mod mixer;
 mod reactor;
 mod splitter;
 mod tank;
+mod vessel;
 
 pub use mixer::Mixer;
 pub use reactor::Reactor;
 pub use splitter::Splitter;
 pub use tank::Tank;
-
-#[cfg(test)]
-mod tests;

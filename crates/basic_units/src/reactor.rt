@@ -1,3 +1,4 @@
+use crate::vessel::{Contents, put_band, put_point, show_band, show_point, stir_band, stir_point};
 use quant::{
     Band, Kind, Limits, MILLION, RateTable, add, add_band, blend, blend_band, clamp, clamp_band,
     gain, gain_band, keep, keep_band, lookup, lookup_band, share, share_band,
@@ -51,46 +52,44 @@ impl Kind for Reactor {
     ghost view_hull = { λ reactor states. intervals Floor (outputs (view_terms reactor)) states [] };
 
     fn next_point(&self, state: &[i64], ins: &[i64], new: &mut [i64]) {
-        let drained = share(self.k, ins[3]);
-        let blended = blend(state[2], ins[1], ins[0], state[0]);
+        let stirred = stir_point(self.k, state, ins);
         let rate = lookup(&self.rate, state[3]);
-        let warmed = blend(state[3], ins[2], ins[0], state[0]);
-        let heated = add(warmed, gain(share(blended, rate), self.heat));
-        let jacketed = blend(heated, ins[4], self.ua, MILLION);
-        new[0] = clamp(add(keep(state[0], drained), ins[0]), self.limits.volume);
-        new[1] = clamp(share(state[0], drained), self.limits.flow);
-        new[2] = clamp(keep(blended, rate), self.limits.conc);
-        new[3] = clamp(jacketed, self.limits.temp);
+        let heated = add(stirred.temp, gain(share(stirred.conc, rate), self.heat));
+        let next = Contents {
+            volume: stirred.volume,
+            flow: stirred.flow,
+            conc: keep(stirred.conc, rate),
+            temp: blend(heated, ins[4], self.ua, MILLION),
+        };
+        put_point(&next, &self.limits, new);
     }
 
     fn next_band(&self, state: &[Band], ins: &[Band], new: &mut [Band]) {
-        let drained = share_band(Band::point(self.k), ins[3]);
-        let kept = keep_band(state[0], drained);
-        let blended = blend_band(state[2], ins[1], ins[0], state[0]);
+        let stirred = stir_band(self.k, state, ins);
         let rate = lookup_band(&self.rate, state[3]);
-        let warmed = blend_band(state[3], ins[2], ins[0], state[0]);
-        let heated = add_band(warmed, gain_band(share_band(blended, rate), self.heat));
-        let jacketed = blend_band(heated, ins[4], Band::point(self.ua), Band::point(MILLION));
-        new[0] = clamp_band(add_band(kept, ins[0]), self.limits.volume);
-        new[1] = clamp_band(share_band(state[0], drained), self.limits.flow);
-        new[2] = clamp_band(keep_band(blended, rate), self.limits.conc);
-        new[3] = clamp_band(jacketed, self.limits.temp);
+        let heated = add_band(
+            stirred.temp,
+            gain_band(share_band(stirred.conc, rate), self.heat),
+        );
+        let next = Contents {
+            volume: stirred.volume,
+            flow: stirred.flow,
+            conc: keep_band(stirred.conc, rate),
+            temp: blend_band(heated, ins[4], Band::point(self.ua), Band::point(MILLION)),
+        };
+        put_band(&next, &self.limits, new);
     }
 
     fn view_point(&self, state: &[i64], outs: &mut [i64]) {
-        outs[0] = state[1];
-        outs[1] = state[2];
-        outs[2] = state[3];
-        outs[3] = clamp(state[0], self.limits.signal);
-        outs[4] = clamp(state[3], self.limits.signal);
+        let (shown, temp) = outs.split_at_mut(4);
+        show_point(state, &self.limits, shown);
+        temp[0] = clamp(state[3], self.limits.signal);
     }
 
     fn view_band(&self, state: &[Band], outs: &mut [Band]) {
-        outs[0] = state[1];
-        outs[1] = state[2];
-        outs[2] = state[3];
-        outs[3] = clamp_band(state[0], self.limits.signal);
-        outs[4] = clamp_band(state[3], self.limits.signal);
+        let (shown, temp) = outs.split_at_mut(4);
+        show_band(state, &self.limits, shown);
+        temp[0] = clamp_band(state[3], self.limits.signal);
     }
 
     ghost next_includes = { λ reactor states inputs state ins h k. intervals-hold Floor (next_terms reactor) states inputs state ins h k };

@@ -1,7 +1,5 @@
-use quant::{
-    Band, Kind, Limits, add, add_band, blend, blend_band, clamp, clamp_band, keep, keep_band,
-    share, share_band,
-};
+use crate::vessel::{put_band, put_point, show_band, show_point, stir_band, stir_point};
+use quant::{Band, Kind, Limits};
 
 /// A stirred tank that drains through a valve.
 ///
@@ -44,40 +42,19 @@ impl Kind for Tank {
     ghost view_hull = { λ tank states. intervals Floor (outputs (view_terms tank)) states [] };
 
     fn next_point(&self, state: &[i64], ins: &[i64], new: &mut [i64]) {
-        let drained = share(self.k, ins[3]);
-        new[0] = clamp(add(keep(state[0], drained), ins[0]), self.limits.volume);
-        new[1] = clamp(share(state[0], drained), self.limits.flow);
-        new[2] = clamp(blend(state[2], ins[1], ins[0], state[0]), self.limits.conc);
-        new[3] = clamp(blend(state[3], ins[2], ins[0], state[0]), self.limits.temp);
+        put_point(&stir_point(self.k, state, ins), &self.limits, new);
     }
 
     fn next_band(&self, state: &[Band], ins: &[Band], new: &mut [Band]) {
-        let drained = share_band(Band::point(self.k), ins[3]);
-        let kept = keep_band(state[0], drained);
-        new[0] = clamp_band(add_band(kept, ins[0]), self.limits.volume);
-        new[1] = clamp_band(share_band(state[0], drained), self.limits.flow);
-        new[2] = clamp_band(
-            blend_band(state[2], ins[1], ins[0], state[0]),
-            self.limits.conc,
-        );
-        new[3] = clamp_band(
-            blend_band(state[3], ins[2], ins[0], state[0]),
-            self.limits.temp,
-        );
+        put_band(&stir_band(self.k, state, ins), &self.limits, new);
     }
 
     fn view_point(&self, state: &[i64], outs: &mut [i64]) {
-        outs[0] = state[1];
-        outs[1] = state[2];
-        outs[2] = state[3];
-        outs[3] = clamp(state[0], self.limits.signal);
+        show_point(state, &self.limits, outs);
     }
 
     fn view_band(&self, state: &[Band], outs: &mut [Band]) {
-        outs[0] = state[1];
-        outs[1] = state[2];
-        outs[2] = state[3];
-        outs[3] = clamp_band(state[0], self.limits.signal);
+        show_band(state, &self.limits, outs);
     }
 
     ghost next_includes = { λ tank states inputs state ins h k. intervals-hold Floor (next_terms tank) states inputs state ins h k };

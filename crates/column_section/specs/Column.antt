@@ -41,7 +41,8 @@ below column i = if nat_lt (i + 1) column.stages then gain_of column.slope (stat
 
 -- a stage at the next tick
 abbrev pub stage : Column → ℕ → Term
-stage column i = clamped column.limits.conc (tray_of column.holdup column.slope (state i) (above i) (below column i) liquid_flow vapour_flow)
+stage column i = clamped column.limits.conc (tray_of column.holdup column.slope (state i) (above i)
+    (below column i) liquid_flow vapour_flow)
 
 -- what leaves at the next tick has the flow and the temp of what comes in
 abbrev pub registers : Column → List Term
@@ -56,7 +57,8 @@ next_terms column = map (stage column) (stages_of column) ++ registers column
 abbrev pub view_terms : Column → List (List Term)
 view_terms column =
     (state column.stages ∷ state (column.stages - 1) ∷ state (column.stages + 1) ∷ [])
-    ∷ (state (column.stages + 2) ∷ clamped column.limits.conc (gain_of column.slope (state 0)) ∷ state (column.stages + 3) ∷ []) ∷ []
+    ∷ (state (column.stages + 2) ∷ clamped column.limits.conc (gain_of column.slope (state 0)) ∷ state
+    (column.stages + 3) ∷ []) ∷ []
 
 abbrev pub register_limits : Column → List Interval
 register_limits column = column.limits.flow ∷ column.limits.temp ∷ column.limits.flow ∷ column.limits.temp ∷ []
@@ -81,7 +83,8 @@ pub record MayTake (column : Column) (ins : List ℤ) : Type 0 where
 -- the same of bands, at the upper ends of the flows
 pub record MayTakeBands (column : Column) (ins : List Interval) : Type 0 where
   pub held : AllInside ins input_limits
-  pub drainable : IsDrainable column.holdup column.slope (slice_index_or ins 0 (point (pos 0))).hi (slice_index_or ins 3 (point (pos 0))).hi
+  pub drainable : IsDrainable column.holdup column.slope (slice_index_or ins 0 (point (pos 0))).hi
+      (slice_index_or ins 3 (point (pos 0))).hi
 
 -- its parameters are in range, and its limits are limits
 pub record IsSound (column : Column) : Type 0 where
@@ -90,3 +93,14 @@ pub record IsSound (column : Column) : Type 0 where
   pub holdup : Holds holdups column.holdup
   pub slope : Holds slopes column.slope
   pub limits : AreLimits column.limits
+
+-- a step may be made from these states and inputs
+pub record MayStep (column : Column) (state ins : List ℤ) : Type 0 where
+  pub sound : IsSound column
+  pub states : AllHold (state_limits column) state
+  pub inputs : MayTake column ins
+
+pub record MayStepBands (column : Column) (state ins : List Interval) : Type 0 where
+  pub sound : IsSound column
+  pub states : AllInside state (state_limits column)
+  pub inputs : MayTakeBands column ins

@@ -1,8 +1,9 @@
 ghost use Rattle.std.specs.Prelude.{◌≡◌, ◌<◌, [], length, map};
-ghost use Rattle.quant.specs.Interval.{Holds, IsInside, AllHold, AllInside, around, wide};
+ghost use Rattle.quant.specs.Interval.{Holds, IsInside, wide};
 ghost use Rattle.quant.specs.Rounding.{Floor};
+ghost use Rattle.quant.specs.Operation.{contents};
 ghost use Rattle.quant.specs.Term.{value, values, interval, intervals};
-ghost use Rattle.column_section.specs.Column.{IsSound, MayTake, MayTakeBands, above, below, stage, stages_of, registers, state_limits};
+ghost use Rattle.column_section.specs.Column.{MayTake, MayTakeBands, MayStep, MayStepBands, above, below, stage, stages_of, registers};
 
 use quant::{Band, Kind, Limits, clamp, clamp_band, gain, gain_band, tray, tray_band};
 
@@ -102,9 +103,7 @@ impl Kind for Column {
 impl Column {
     /// The conc of stage `i` at the next tick.
     fn stage_point(&self, state: &[i64], ins: &[i64], i: usize) -> i64
-        requires sound { IsSound self.now }
-        requires states { AllHold (state_limits self.now) state.now }
-        requires inputs { MayTake self.now ins.now }
+        requires step { MayStep self.now state.now ins.now }
         requires stage { i < self.now.stages }
         ensures { result ≡ value Floor state.now ins.now (stage self.now i) }
     {
@@ -124,9 +123,7 @@ impl Column {
 
     /// The conc of the liquid that comes to stage `i`.
     fn above_point(&self, state: &[i64], ins: &[i64], i: usize) -> i64
-        requires sound { IsSound self.now }
-        requires states { AllHold (state_limits self.now) state.now }
-        requires inputs { MayTake self.now ins.now }
+        requires step { MayStep self.now state.now ins.now }
         requires stage { i < self.now.stages }
         ensures value { result ≡ value Floor state.now ins.now (above i) }
         ensures size { Holds wide result }
@@ -136,12 +133,10 @@ impl Column {
 
     /// The conc of the vapour that comes to stage `i`.
     fn below_point(&self, state: &[i64], ins: &[i64], i: usize) -> i64
-        requires sound { IsSound self.now }
-        requires states { AllHold (state_limits self.now) state.now }
-        requires inputs { MayTake self.now ins.now }
+        requires step { MayStep self.now state.now ins.now }
         requires stage { i < self.now.stages }
         ensures value { result ≡ value Floor state.now ins.now (below self.now i) }
-        ensures size { Holds (around 10000000000000000) result }
+        ensures size { Holds contents result }
     {
         if i + 1 < self.stages as usize {
             gain(state[i + 1], self.slope)
@@ -152,9 +147,7 @@ impl Column {
 
     /// Makes the conc of each stage at the next tick.
     fn fill_point(&self, state: &[i64], ins: &[i64], contents: &mut [i64])
-        requires sound { IsSound self.now }
-        requires states { AllHold (state_limits self.now) state.now }
-        requires inputs { MayTake self.now ins.now }
+        requires step { MayStep self.now state.now ins.now }
         requires room { length contents.old ≡ self.now.stages }
         ensures { contents.new ≡ values Floor (map (stage self.now) (stages_of self.now)) state.now ins.now }
     {
@@ -177,9 +170,7 @@ impl Column {
 
     /// The band of the conc of stage `i` at the next tick.
     fn stage_band(&self, state: &[Band], ins: &[Band], i: usize) -> Band
-        requires sound { IsSound self.now }
-        requires states { AllInside state.now (state_limits self.now) }
-        requires inputs { MayTakeBands self.now ins.now }
+        requires step { MayStepBands self.now state.now ins.now }
         requires stage { i < self.now.stages }
         ensures { result ≡ interval Floor state.now ins.now (stage self.now i) }
     {
@@ -199,9 +190,7 @@ impl Column {
 
     /// The band of the conc of the liquid that comes to stage `i`.
     fn above_band(&self, state: &[Band], ins: &[Band], i: usize) -> Band
-        requires sound { IsSound self.now }
-        requires states { AllInside state.now (state_limits self.now) }
-        requires inputs { MayTakeBands self.now ins.now }
+        requires step { MayStepBands self.now state.now ins.now }
         requires stage { i < self.now.stages }
         ensures value { result ≡ interval Floor state.now ins.now (above i) }
         ensures size { IsInside result wide }
@@ -211,12 +200,10 @@ impl Column {
 
     /// The band of the conc of the vapour that comes to stage `i`.
     fn below_band(&self, state: &[Band], ins: &[Band], i: usize) -> Band
-        requires sound { IsSound self.now }
-        requires states { AllInside state.now (state_limits self.now) }
-        requires inputs { MayTakeBands self.now ins.now }
+        requires step { MayStepBands self.now state.now ins.now }
         requires stage { i < self.now.stages }
         ensures value { result ≡ interval Floor state.now ins.now (below self.now i) }
-        ensures size { IsInside result (around 10000000000000000) }
+        ensures size { IsInside result contents }
     {
         if i + 1 < self.stages as usize {
             gain_band(state[i + 1], self.slope)
@@ -227,9 +214,7 @@ impl Column {
 
     /// Makes the bands of the conc of each stage at the next tick.
     fn fill_band(&self, state: &[Band], ins: &[Band], contents: &mut [Band])
-        requires sound { IsSound self.now }
-        requires states { AllInside state.now (state_limits self.now) }
-        requires inputs { MayTakeBands self.now ins.now }
+        requires step { MayStepBands self.now state.now ins.now }
         requires room { length contents.old ≡ self.now.stages }
         ensures { contents.new ≡ intervals Floor (map (stage self.now) (stages_of self.now)) state.now ins.now }
     {

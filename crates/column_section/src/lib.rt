@@ -4,6 +4,3 @@
 mod column;
 
 pub use column::Column;
-
-#[cfg(test)]
-mod tests;

@@ -1,6 +1,7 @@
 -- The equations of a PI controller, and what it may be given.
 use Rattle.std.specs.Prelude.{List, [], ◌∷◌}
-use Rattle.quant.specs.Interval.{Interval, Holds, IsBand, IsInside, around, wide}
+use Rattle.quant.specs.Interval.{Interval, Holds, IsBand, IsInside, wide}
+use Rattle.quant.specs.Operation.{gains}
 use Rattle.quant.specs.Limits.{AreLimits}
 use Rattle.quant.specs.Term.{Term, state, input, number, sum, difference, gain_of, clamped}
 use Rattle.controllers.specs.declared.controller.Controller.{Controller}
@@ -46,8 +47,8 @@ input_limits = wide ∷ wide ∷ []
 
 -- its parameters are in range, and its limits are limits
 pub record IsSound (controller : Controller) : Type 0 where
-  pub kp : Holds (around 1000000000) controller.kp
-  pub ki : Holds (around 1000000000) controller.ki
+  pub kp : Holds gains controller.kp
+  pub ki : Holds gains controller.ki
   pub bias : Holds wide controller.bias
   pub integral : IsBand controller.integral_limits × IsInside controller.integral_limits wide
   pub limits : AreLimits controller.limits

@@ -11,10 +11,13 @@ use Rattle.controllers.specs.Controller.{IsSound, next_terms, view_terms, state_
 -- each state is clamped by its limits
 pub next-limited : (controller : Controller) (states inputs : List Interval) → IsSound controller →
     AllInside (intervals Floor (next_terms controller) states inputs) (state_limits controller)
-next-limited controller states inputs sound =
-    (clamped-inside controller.integral_limits _ sound.integral.0, (clamped-inside controller.limits.signal _ sound.limits.signal.0, tt))
+next-limited controller states inputs sound = (
+  clamped-inside controller.integral_limits _ sound.integral.0,
+  (clamped-inside controller.limits.signal _ sound.limits.signal.0, tt),
+)
 
 -- the output is a state
-pub view-limited : (controller : Controller) (states : List Interval) → IsSound controller → AllBands states → AllInside states (state_limits controller) →
+pub view-limited : (controller : Controller) (states : List Interval) → IsSound controller → AllBands states →
+    AllInside states (state_limits controller) →
     AllInside (intervals Floor view_terms states []) (output_limits controller)
 view-limited controller states sound bands inside = (place-inside states (state_limits controller) 1 inside, tt)

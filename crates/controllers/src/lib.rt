@@ -4,6 +4,3 @@
 mod controller;
 
 pub use controller::Controller;
-
-#[cfg(test)]
-mod tests;

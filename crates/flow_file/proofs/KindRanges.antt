@@ -1,26 +1,28 @@
 -- The ranges of what a unit of each kind says.
-use Rattle.std.proofs.Common.{◌≡◌, ℤ, pos, true, arith}
-use Rattle.std.specs.Prelude.{neg_ℤ}
+use Rattle.std.proofs.Common.{◌≡◌, ℤ, true, arith}
 use Rattle.std.proofs.lemmas.Int.{ints}
 use Rattle.quant.specs.Interval.{Holds, wide}
-use Rattle.quant.specs.Operation.{million}
-use Rattle.parts.specs.InRange.{ppm, gains, IsWide, IsRatePoint, AreContents, AreColumnBands, IsKindPart}
+use Rattle.parts.specs.InRange.{ppm, gains, holdups, slopes, most_rate_points, most_stages, fewest_inputs, most_inputs}
+use Rattle.parts.specs.InRange.{IsWide, IsRatePoint, AreContents, AreColumnBands, IsKindPart}
 use Rattle.toml.specs.Data.{as_array}
 use Rattle.flow_file.specs.declared.fault.TextFault.TheVariants as fault
 use Rattle.flow_file.specs.declared.units.UnitKind.{UnitKind}
 use Rattle.flow_file.specs.declared.units.UnitKind.TheVariants as kind
 use Rattle.flow_file.specs.Value.{Bytes, or_fault, pair_of, Section}
-use Rattle.flow_file.specs.Units.{ppm_in, gain_in, is_rate_point, rate_point_of, contents_of, flow_and_temp_of, opening_of}
-use Rattle.flow_file.specs.Units.{tank_of, reactor_of, column_of, controller_of, mixer_of, splitter_of, part_of}
+use Rattle.flow_file.specs.Units.{ppm_in, gain_in, is_rate_point, rate_point_of, contents_of, flow_and_temp_of}
+use Rattle.flow_file.specs.Units.{opening_of}
+use Rattle.flow_file.specs.Units.{tank_of, reaction_of, reactor_of, stages_of, column_of, settings_of, controller_of}
+use Rattle.flow_file.specs.Units.{mixer_of, splitter_of, part_of}
+use Rattle.flow_file.specs.Within.{IsReaction, AreStages, AreSettings}
 use Rattle.flow_file.proofs.Yields.{Yields, Reads, given, anything, after, tested, required}
 use Rattle.flow_file.proofs.ValueRanges.{number, count, band, reference}
 use Rattle.flow_file.proofs.ListRanges.{list}
 
 ratio : Reads (Holds ppm) ppm_in
-ratio = number (pos 0) million
+ratio = number ppm
 
 gain : Reads (Holds gains) gain_in
-gain = number (neg_ℤ (pos 1000000000)) (pos 1000000000)
+gain = number gains
 
 point_is : (point : ℤ × ℤ) → is_rate_point point ≡ true → IsRatePoint point
 point_is point passed = (
@@ -55,18 +57,24 @@ tank section =
     after (contents section) (λ held held_are.
     given (input_is, valve_is, k_is, held_are)))))
 
+reaction : (section : Section) → Yields IsReaction (reaction_of section)
+unfolding reaction_of
+reaction section =
+    after (required ratio section _) (λ k k_is.
+    after (required (list rate_point 1 most_rate_points) section _) (λ rate rate_are.
+    after (required gain section _) (λ heat heat_is.
+    after (required ratio section _) (λ ua ua_is.
+    after (contents section) (λ held held_are.
+    given (record { k = k_is; rate = rate_are; heat = heat_is; ua = ua_is; held = held_are }))))))
+
 reactor : (section : Section) → Yields IsKindPart (reactor_of section)
 unfolding reactor_of
 reactor section =
     after (required reference section _) (λ input input_is.
     after (required reference section _) (λ valve valve_is.
     after (required reference section _) (λ jacket jacket_is.
-    after (required ratio section _) (λ k k_is.
-    after (required (list rate_point 1 64) section _) (λ rate rate_are.
-    after (required gain section _) (λ heat heat_is.
-    after (required ratio section _) (λ ua ua_is.
-    after (contents section) (λ held held_are.
-    given (input_is, valve_is, jacket_is, k_is, rate_are, heat_is, ua_is, held_are)))))))))
+    after (reaction section) (λ its are.
+    given (input_is, valve_is, jacket_is, are.k, are.rate, are.heat, are.ua, are.held)))))
 
 -- what a column starts from
 flow_and_temp : (section : Section) (flow_key temp_key : Bytes) →
@@ -78,7 +86,8 @@ flow_and_temp section flow_key temp_key =
     given (flow_is, temp_is)))
 
 opening : (section : Section) →
-    Yields (λ held. AreColumnBands held.x held.liquid_flow held.liquid_temp held.vapour_flow held.vapour_temp) (opening_of section)
+    Yields (λ held. AreColumnBands held.x held.liquid_flow held.liquid_temp held.vapour_flow held.vapour_temp)
+    (opening_of section)
 unfolding opening_of
 opening section =
     after (required band section _) (λ x x_is.
@@ -86,33 +95,53 @@ opening section =
     after (flow_and_temp section _ _) (λ vapour vapour_are.
     given (x_is, liquid_are.0, liquid_are.1, vapour_are.0, vapour_are.1))))
 
+stages : (section : Section) → Yields AreStages (stages_of section)
+unfolding stages_of
+stages section =
+    after (required (count 1 most_stages) section _) (λ stages stages_are.
+    after (required (number holdups) section _) (λ holdup holdup_is.
+    after (required (number slopes) section _) (λ slope slope_is.
+    given (record { stages = stages_are; holdup = holdup_is; slope = slope_is }))))
+
 column : (section : Section) → Yields IsKindPart (column_of section)
 unfolding column_of
 column section =
     after (required reference section _) (λ liquid liquid_is.
     after (required reference section _) (λ vapour vapour_is.
-    after (required (count 1 64) section _) (λ stages stages_are.
-    after (required (number (pos 1) (pos 1000000000000)) section _) (λ holdup holdup_is.
-    after (required (number (pos 0) (pos 1000000000)) section _) (λ slope slope_is.
+    after (stages section) (λ its are.
     after (opening section) (λ held held_are.
-    given (liquid_is, vapour_is, stages_are.0, stages_are.1, holdup_is, slope_is, held_are)))))))
+    given (liquid_is, vapour_is, are.stages.0, are.stages.1, are.holdup, are.slope, held_are)))))
+
+settings : (section : Section) → Yields AreSettings (settings_of section)
+unfolding settings_of
+settings section =
+    after (required gain section _) (λ kp kp_is.
+    after (required gain section _) (λ ki ki_is.
+    after (required (number wide) section _) (λ bias bias_is.
+    after (required band section _) (λ limits limits_are.
+    after (required band section _) (λ integral integral_is.
+    after (required band section _) (λ out out_is.
+    given (record {
+      kp = kp_is;
+      ki = ki_is;
+      bias = bias_is;
+      integral_limits = limits_are;
+      integral = integral_is;
+      out = out_is;
+    })))))))
 
 controller : (section : Section) → Yields IsKindPart (controller_of section)
 unfolding controller_of
 controller section =
     after (required reference section _) (λ set set_is.
     after (required reference section _) (λ measured measured_is.
-    after (required gain section _) (λ kp kp_is.
-    after (required gain section _) (λ ki ki_is.
-    after (required (number wide.lo wide.hi) section _) (λ bias bias_is.
-    after (required band section _) (λ limits limits_are.
-    after (required band section _) (λ integral integral_is.
-    after (required band section _) (λ out out_is.
-    given (set_is, measured_is, kp_is, ki_is, bias_is, limits_are, integral_is, out_is)))))))))
+    after (settings section) (λ its are.
+    given (set_is, measured_is, are.kp, are.ki, are.bias, are.integral_limits, are.integral, are.out))))
 
 mixer : (section : Section) → Yields IsKindPart (mixer_of section)
 unfolding mixer_of
-mixer section = after (required (list reference 2 8) section _) (λ input input_are. given input_are)
+mixer section = after (required (list reference fewest_inputs most_inputs) section _)
+    (λ input input_are. given input_are)
 
 splitter : (section : Section) → Yields IsKindPart (splitter_of section)
 unfolding splitter_of

@@ -1,3 +1,4 @@
+pub mod Refusals
 pub mod Keys
 pub mod Lists
 pub mod Loop

@@ -18,7 +18,8 @@ has_length : (least most : ℕ) (place : Bytes) (node : Data) →
 unfolding array_between
 has_length least most place node =
     after (anything (or_fault (as_array node) (fault.WrongType place))) (λ array _.
-    after (tested (nat_le (item_count array) most) array (fault.TooMany place) (at_most (item_count array) most)) (λ short few.
+    after (tested (nat_le (item_count array) most) array (fault.TooMany place) (at_most (item_count array) most))
+    (λ short few.
     tested _ _ _ (λ passed. (at_most least (item_count short) passed, few))))
 
 -- each value of an array is read

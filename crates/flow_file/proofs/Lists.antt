@@ -29,6 +29,7 @@ no_triple (a ∷ b ∷ c ∷ d ∷ values) other = refl
 
 -- what is no array and an array without what is wanted are refused alike
 pub one_refusal : {A : Type 0} (found : Option Items) (wanted : Items → Option A) (refusal : TextFault) →
-    (or_fault found refusal >>= (λ array. or_fault (wanted array) refusal)) ≡ or_fault (option_and_then wanted found) refusal
+    (or_fault found refusal >>= (λ array. or_fault (wanted array) refusal))
+    ≡ or_fault (option_and_then wanted found) refusal
 one_refusal (Some array) wanted refusal = refl
 one_refusal None wanted refusal = refl

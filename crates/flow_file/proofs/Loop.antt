@@ -31,7 +31,8 @@ before first rest = first >>= (λ x. rest >>= (λ others. Ok (x ∷ others)))
 
 at_item : {A : Type 0} (read : Bytes → Data → Reading A) (place : Bytes) (values : List Value) (i : ℕ) (node : Value)
     → i < length values → node ≡ get_or values i node
-    → from_item read place i values ≡ before (read (item_place place i) (view node)) (from_item read place (i + 1) values)
+    → from_item read place i values
+    ≡ before (read (item_place place i) (view node)) (from_item read place (i + 1) values)
 at_item read place values i node within found =
     rw (items_view-drop values i node within, ← found, ← add-one i) refl
 
@@ -52,7 +53,8 @@ pub ends : {A : Type 0} (read : Bytes → Data → Reading A) (place : Bytes) (v
     → with_front front (from_item read place i values) ≡ total → Fails end total
 ends read place values i node front unread.NoMemory total within found here so_far = tt
 ends read place values i node front (unread.Fault fault) total within found here so_far =
-    let next : from_item read place i values ≡ Err fault = at_item read place values i node within found ∙ rw here refl in
+    let next : from_item read place i values ≡ Err fault = at_item read place values i node within found
+    ∙ rw here refl in
     sym so_far ∙ ap (with_front front) next
 
 pub done : {A : Type 0} (read : Bytes → Data → Reading A) (place : Bytes) (values : List Value) (i : ℕ)
@@ -64,6 +66,7 @@ done read place values i front total past so_far =
     sym so_far ∙ (ap (with_front front) rest ∙ ap Ok (append-nil front))
 
 -- one more at the end
-pub push : {A : Type 0} (P : A → Type 0) (xs : List A) (x : A) → AllByRecursion P xs → P x → AllByRecursion P (xs ++ x ∷ [])
+pub push : {A : Type 0} (P : A → Type 0) (xs : List A) (x : A) → AllByRecursion P xs → P x →
+    AllByRecursion P (xs ++ x ∷ [])
 push P [] x before here = (here, tt)
 push P (y ∷ xs) x before here = (before.0, push P xs x before.1 here)

@@ -1,34 +1,33 @@
 -- The ranges of what a whole plant text says.
-use Rattle.std.proofs.Common.{◌≡◌, ℕ, pos, List, Ok, arith}
+use Rattle.std.proofs.Common.{◌≡◌, ℕ, List, Ok, arith}
 use Rattle.std.specs.Prelude.{[]}
 use Rattle.quant.specs.Interval.{Holds}
 use Rattle.parts.specs.Parts.{FileParts}
-use Rattle.parts.specs.InRange.{widths, AreWidths, AreWideLimits, AreOwnLimits, IsUnitPart, AreFeeds, AreInRange}
-use Rattle.toml.specs.Data.{Members}
+use Rattle.parts.specs.InRange.{most_ticks, longest_window, most_units, widths, AreWidths, AreWideLimits, AreOwnLimits}
+use Rattle.parts.specs.InRange.{IsUnitPart, AreFeeds, AreInRange}
 use Rattle.flow_file.specs.declared.plant.Frame.{Frame}
 use Rattle.flow_file.specs.declared.units.UnitKind.{UnitKind}
-use Rattle.flow_file.specs.Value.{Section, section_of, at_key, no_others, tree_of}
+use Rattle.flow_file.specs.Value.{Section, at_key, no_others, tree_of}
 use Rattle.flow_file.specs.Units.{unit_kind_of, own_limits_of, no_limits, last_limits_of, unit_of}
 use Rattle.flow_file.specs.Plant.{format_of, run_of, limits_of, width_in, widths_of, no_widths}
-use Rattle.flow_file.specs.Plant.{widths_at, feeds_at, frame_of, parts_of, parts_in}
-use Rattle.flow_file.proofs.Yields.{Yields, Reads, given, anything, after, required, optional, or_else}
+use Rattle.flow_file.specs.Plant.{widths_at, feeds_at, frame_of, parts_at, parts_of, parts_in}
+use Rattle.flow_file.proofs.Yields.{Yields, Reads, given, anything, after, table, required, optional, or_else}
 use Rattle.flow_file.proofs.ValueRanges.{IsBetween, number, count, band, name}
 use Rattle.flow_file.proofs.ListRanges.{list}
 use Rattle.flow_file.proofs.FeedRanges.{feeds}
 use Rattle.flow_file.proofs.KindRanges.{part}
 
 -- a unit's own limits, and the unit
-own_limits : Reads AreOwnLimits own_limits_of
+own_limits : (section : Section) → Yields AreOwnLimits (own_limits_of section)
 unfolding own_limits_of
-own_limits place node =
-    after (anything (section_of place node)) (λ section _.
+own_limits section =
     after (optional band section _) (λ flow flow_is.
     after (optional band section _) (λ conc conc_is.
     after (optional band section _) (λ temp temp_is.
     after (optional band section _) (λ volume volume_is.
     after (optional band section _) (λ signal signal_is.
     after (anything (no_others _ section)) (λ _ _.
-    given (record { flow = flow_is; conc = conc_is; temp = temp_is; volume = volume_is; signal = signal_is }))))))))
+    given (record { flow = flow_is; conc = conc_is; temp = temp_is; volume = volume_is; signal = signal_is })))))))
 
 no_limits_are : AreOwnLimits no_limits
 no_limits_are = record { flow = tt; conc = tt; temp = tt; volume = tt; signal = tt }
@@ -36,55 +35,52 @@ no_limits_are = record { flow = tt; conc = tt; temp = tt; volume = tt; signal = 
 last_limits : (kind : UnitKind) (section : Section) → Yields AreOwnLimits (last_limits_of kind section)
 unfolding last_limits_of
 last_limits kind section =
-    after (optional own_limits section _) (λ limits limits_are.
+    after (optional (table own_limits) section _) (λ limits limits_are.
     after (anything (no_others _ section)) (λ _ _.
     given (or_else AreOwnLimits limits no_limits limits_are no_limits_are)))
 
-unit : Reads IsUnitPart unit_of
+unit : (section : Section) → Yields IsUnitPart (unit_of section)
 unfolding unit_of
-unit place node =
-    after (anything (section_of place node)) (λ section _.
+unit section =
     after (required name section _) (λ name name_is.
     after (anything (at_key unit_kind_of section _)) (λ kind _.
     after (part kind section) (λ part part_is.
     after (last_limits kind section) (λ limits limits_are.
-    given (record { name = name_is; kind = part_is; limits = limits_are }))))))
+    given (record { name = name_is; kind = part_is; limits = limits_are })))))
 
 -- what stands before the feeds and the units
-run : Reads (λ run. IsBetween 1 100000 run.0 × IsBetween 1 64 run.1) run_of
+run : (section : Section) →
+    Yields (λ run. IsBetween 1 most_ticks run.0 × IsBetween 1 longest_window run.1) (run_of section)
 unfolding run_of
-run place node =
-    after (anything (section_of place node)) (λ section _.
-    after (required (count 1 100000) section _) (λ ticks ticks_are.
-    after (required (count 1 64) section _) (λ window window_is.
+run section =
+    after (required (count 1 most_ticks) section _) (λ ticks ticks_are.
+    after (required (count 1 longest_window) section _) (λ window window_is.
     after (anything (no_others _ section)) (λ _ _.
-    given (ticks_are, window_is)))))
+    given (ticks_are, window_is))))
 
-limits : Reads AreWideLimits limits_of
+limits : (section : Section) → Yields AreWideLimits (limits_of section)
 unfolding limits_of
-limits place node =
-    after (anything (section_of place node)) (λ section _.
+limits section =
     after (required band section _) (λ flow flow_is.
     after (required band section _) (λ conc conc_is.
     after (required band section _) (λ temp temp_is.
     after (required band section _) (λ volume volume_is.
     after (required band section _) (λ signal signal_is.
     after (anything (no_others _ section)) (λ _ _.
-    given (record { flow = flow_is; conc = conc_is; temp = temp_is; volume = volume_is; signal = signal_is }))))))))
+    given (record { flow = flow_is; conc = conc_is; temp = temp_is; volume = volume_is; signal = signal_is })))))))
 
 width : Reads (Holds widths) width_in
-width = number (pos 0) (pos 2000000000000)
+width = number widths
 
-asked_widths : Reads AreWidths widths_of
+asked_widths : (section : Section) → Yields AreWidths (widths_of section)
 unfolding widths_of
-asked_widths place node =
-    after (anything (section_of place node)) (λ section _.
+asked_widths section =
     after (optional width section _) (λ flow flow_is.
     after (optional width section _) (λ conc conc_is.
     after (optional width section _) (λ temp temp_is.
     after (optional width section _) (λ signal signal_is.
     after (anything (no_others _ section)) (λ _ _.
-    given (record { flow = flow_is; conc = conc_is; temp = temp_is; signal = signal_is })))))))
+    given (record { flow = flow_is; conc = conc_is; temp = temp_is; signal = signal_is }))))))
 
 no_widths_are : AreWidths no_widths
 no_widths_are = record { flow = tt; conc = tt; temp = tt; signal = tt }
@@ -92,12 +88,12 @@ no_widths_are = record { flow = tt; conc = tt; temp = tt; signal = tt }
 all_widths : (top : Section) → Yields AreWidths (widths_at top)
 unfolding widths_at
 all_widths top =
-    after (optional asked_widths top _) (λ found found_are.
+    after (optional (table asked_widths) top _) (λ found found_are.
     given (or_else AreWidths found no_widths found_are no_widths_are))
 
 record IsFrame (frame : Frame) : Type 0 where
-  pub ticks : IsBetween 1 100000 frame.ticks
-  pub window : IsBetween 1 64 frame.window
+  pub ticks : IsBetween 1 most_ticks frame.ticks
+  pub window : IsBetween 1 longest_window frame.window
   pub limits : AreWideLimits frame.limits
   pub width : AreWidths frame.width
 
@@ -105,8 +101,8 @@ frame : (top : Section) → Yields IsFrame (frame_of top)
 unfolding frame_of
 frame top =
     after (anything (at_key format_of top _)) (λ _ _.
-    after (required run top _) (λ run run_is.
-    after (required limits top _) (λ limits limits_are.
+    after (required (table run) top _) (λ run run_is.
+    after (required (table limits) top _) (λ limits limits_are.
     after (all_widths top) (λ width width_are.
     given (record { ticks = run_is.0; window = run_is.1; limits = limits_are; width = width_are })))))
 
@@ -117,13 +113,12 @@ all_feeds top =
     after (optional feeds top _) (λ found found_are.
     given (or_else AreFeeds found [] found_are (omega arith, tt)))
 
-parts : (table : Members) → Yields AreInRange (parts_of table)
-unfolding parts_of
-parts table =
-    let top : Section = record { prefix = []; members = table } in
+parts : (top : Section) → Yields AreInRange (parts_at top)
+unfolding parts_at
+parts top =
     after (frame top) (λ frame frame_is.
     after (all_feeds top) (λ feeds feeds_are.
-    after (required (list unit 1 256) top _) (λ units units_are.
+    after (required (list (table unit) 1 most_units) top _) (λ units units_are.
     after (anything (no_others _ top)) (λ _ _.
     given (record {
       ticks = frame_is.ticks;
@@ -135,5 +130,6 @@ parts table =
     })))))
 
 pub in_range : (bytes : List ℕ) (parts : FileParts) → parts_in bytes ≡ Ok parts → AreInRange parts
-unfolding parts_in
-in_range bytes = (after (anything (tree_of bytes)) (λ table _. parts table)).value
+unfolding parts_in parts_of
+in_range bytes =
+    (after (anything (tree_of bytes)) (λ members _. parts (record { prefix = []; members = members }))).value

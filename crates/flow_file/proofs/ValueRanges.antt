@@ -1,39 +1,41 @@
 -- The ranges of single values: numbers, bands, names.
-use Rattle.std.proofs.Common.{◌≡◌, ℕ, ℤ, pos, ◌≤◌, true, Option, Some, None, arith}
+use Rattle.std.proofs.Common.{◌≡◌, ℕ, ℤ, ◌≤◌, true, Option, Some, None, arith}
 use Rattle.std.specs.Prelude.{◌&&◌, int_le, nat_abs}
 use Rattle.std.proofs.lemmas.Int.{ints}
 use Rattle.quant.specs.Interval.{Interval, Holds, wide}
-use Rattle.parts.specs.InRange.{IsWide, IsName, IsReference}
+use Rattle.parts.specs.InRange.{from_to, IsWide, IsName, IsReference}
 use Rattle.toml.specs.Data.{as_integer, as_array}
 use Rattle.flow_file.specs.declared.fault.TextFault.TheVariants as fault
 use Rattle.flow_file.specs.Read.{Reading}
-use Rattle.flow_file.specs.Value.{Bytes, or_fault, number_in, count_in, band_between, pair_of, number_band, pair_band, band_of}
+use Rattle.flow_file.specs.Value.{Bytes, or_fault, is_in, number_in, count_in, band_between}
+use Rattle.flow_file.specs.Value.{pair_of, number_band, pair_band, band_of}
 use Rattle.flow_file.specs.Value.{text_of, name_of, reference_of}
 use Rattle.flow_file.proofs.Yields.{Yields, Reads, given, anything, after, tested}
 
-holds : (lo hi number : ℤ) → (int_le lo number && int_le number hi) ≡ true → Holds (record { lo = lo; hi = hi }) number
-holds lo hi number passed = record { above = grind (arith, ints); below = grind (arith, ints) }
+pub holds : (range : Interval) (number : ℤ) → is_in range number ≡ true → Holds range number
+holds range number passed = record { above = grind (arith, ints); below = grind (arith, ints) }
 
--- a whole number from lo to hi
-pub number : (lo hi : ℤ) → Reads (Holds (record { lo = lo; hi = hi })) (number_in lo hi)
+-- a whole number of a range
+pub number : (range : Interval) → Reads (Holds range) (number_in range)
 unfolding number_in
-number lo hi place node =
+number range place node =
     after (anything (or_fault (as_integer node) (fault.WrongType place))) (λ found _.
-    tested _ _ _ (holds lo hi found))
+    tested _ _ _ (holds range found))
 
 -- the counts from lo to hi
 abbrev pub IsBetween : ℕ → ℕ → ℕ → Type 0
 IsBetween lo hi n = (lo ≤ n) × (n ≤ hi)
 
-is_between : (lo hi : ℕ) (number : ℤ) → Holds (record { lo = pos lo; hi = pos hi }) number → IsBetween lo hi (nat_abs number)
+pub is_between : (lo hi : ℕ) (number : ℤ) → Holds (from_to lo hi) number → IsBetween lo hi (nat_abs number)
 is_between lo hi number held = (omega (arith, ints), omega (arith, ints))
 
 pub count : (lo hi : ℕ) → Reads (IsBetween lo hi) (count_in lo hi)
 unfolding count_in
-count lo hi place node = after (number (pos lo) (pos hi) place node) (λ found held. given (is_between lo hi found held))
+count lo hi place node = after (number (from_to lo hi) place node) (λ found held. given (is_between lo hi found held))
 
 -- a band of wide numbers
-is_wide : (lo hi : ℤ) → ((int_le wide.lo lo && int_le lo hi) && int_le hi wide.hi) ≡ true → IsWide (record { lo = lo; hi = hi })
+is_wide : (lo hi : ℤ) → ((int_le wide.lo lo && int_le lo hi) && int_le hi wide.hi) ≡ true →
+    IsWide (record { lo = lo; hi = hi })
 is_wide lo hi passed =
     (record { ordered = grind (arith, ints) }, record { above = grind (arith, ints); below = grind (arith, ints) })
 

@@ -5,7 +5,8 @@ use Rattle.toml.specs.Data.{Data, get_member}
 use Rattle.flow_file.specs.declared.fault.TextFault.{TextFault}
 use Rattle.flow_file.specs.declared.fault.TextFault.TheVariants as fault
 use Rattle.flow_file.specs.Read.{Reading, ◌>>=◌}
-use Rattle.flow_file.specs.Value.{Bytes, or_fault, when, Section, key_place, at_key, read_some, at_optional}
+use Rattle.flow_file.specs.Value.{Bytes, or_fault, when, Section, section_of, table_of, key_place, at_key, read_some}
+use Rattle.flow_file.specs.Value.{at_optional}
 
 -- where the reading gives a value, the value meets P
 pub record Yields {A : Type 0} (P : A → Type 0) (reading : Reading A) : Type 0 where
@@ -37,6 +38,12 @@ pub tested : {A : Type 0} {P : A → Type 0} (test : Bool) (x : A) (refusal : Te
     (test ≡ true → P x) → Yields P (when test x refusal)
 tested true x refusal passes = given (passes refl)
 tested false x refusal passes = refused
+
+-- the keys of the table at a place
+pub table : {A : Type 0} {P : A → Type 0} {read : Section → Reading A} →
+    ((section : Section) → Yields P (read section)) → Reads P (table_of read)
+unfolding table_of
+table keys place node = after (anything (section_of place node)) (λ section _. keys section)
 
 -- the value at a key that is required
 pub required : {A : Type 0} {P : A → Type 0} {read : Bytes → Data → Reading A} → Reads P read →

@@ -1,23 +1,25 @@
 -- The feeds of a plant text.
-use Rattle.std.specs.Prelude.{◌&&◌, pos, nat_abs, int_le, Bool, true, false, if◌then◌else◌}
+use Rattle.std.specs.Prelude.{nat_abs, Bool, true, false, if◌then◌else◌}
 use Rattle.std.specs.Prelude.{[], ◌∷◌, bytes_eq, codes, Option, Some, None, is_some, Ok}
 use Rattle.parts.specs.declared.feeds.Piece.{Piece}
 use Rattle.parts.specs.declared.feeds.FeedBand.{FeedBand}
 use Rattle.parts.specs.declared.feeds.FeedBand.TheVariants as feed_band
+use Rattle.parts.specs.declared.feeds.FeedKind.{FeedKind}
 use Rattle.parts.specs.declared.feeds.FeedKind.TheVariants as feed_kind
 use Rattle.parts.specs.declared.feeds.FeedPart.{FeedPart}
+use Rattle.parts.specs.InRange.{from_to, last_piece, most_pieces}
 use Rattle.toml.specs.Data.{Data, Items, item, as_array}
 use Rattle.flow_file.specs.declared.fault.TextFault.TheVariants as fault
 use Rattle.flow_file.specs.Read.{Reading, ◌>>=◌}
-use Rattle.flow_file.specs.Value.{Bytes, or_fault, when, Section, section_of}
-use Rattle.flow_file.specs.Value.{at_key, no_others, triple_of, band_between, band_of, text_of, name_of, list_of}
+use Rattle.flow_file.specs.Value.{Bytes, or_fault, when, Section}
+use Rattle.flow_file.specs.Value.{at_key, no_others, is_in, triple_of, band_between, band_of, text_of, name_of, list_of}
 
 -- a piece: its tick, and the ends of its band
 unfoldable pub piece_of : Bytes → Data → Reading Piece
 piece_of place node = do
   array ← or_fault (as_array node) (fault.WrongType place)
   numbers ← or_fault (triple_of array) (fault.WrongType place)
-  tick ← when (int_le (pos 0) numbers.0 && int_le numbers.0 (pos 1000000000)) (nat_abs numbers.0) (fault.OutOfRange place)
+  tick ← when (is_in (from_to 0 last_piece) numbers.0) (nat_abs numbers.0) (fault.OutOfRange place)
   band ← band_between place numbers.1.0 numbers.1.1
   Ok (record { tick = tick; band = band })
 
@@ -31,7 +33,7 @@ begins_with_array _ = false
 
 unfoldable pub pieces_of : Bytes → Data → Reading FeedBand
 pieces_of place node = do
-  pieces ← list_of piece_of 1 1000 place node
+  pieces ← list_of piece_of 1 most_pieces place node
   Ok (feed_band.Pieces pieces)
 
 abbrev pub constant_of : Bytes → Data → Reading FeedBand
@@ -42,21 +44,24 @@ constant_of place node = do
 unfoldable pub feed_band_of : Bytes → Data → Reading FeedBand
 feed_band_of place node = if begins_with_array (as_array node) then pieces_of place node else constant_of place node
 
--- a material feed
-unfoldable pub material_of : Section → Bytes → Reading FeedPart
-material_of section name = do
+-- what a material feed brings
+unfoldable pub material_of : Section → Reading FeedKind
+material_of section = do
   flow ← at_key feed_band_of section (codes "flow")
   conc ← at_key feed_band_of section (codes "conc")
   temp ← at_key feed_band_of section (codes "temp")
   others ← no_others (codes "name" ∷ codes "kind" ∷ codes "flow" ∷ codes "conc" ∷ codes "temp" ∷ []) section
-  Ok (record { name = name; kind = feed_kind.Material flow conc temp })
+  Ok (feed_kind.Material flow conc temp)
 
--- a signal feed
-unfoldable pub signal_of : Section → Bytes → Reading FeedPart
-signal_of section name = do
+-- what a signal feed brings
+unfoldable pub signal_of : Section → Reading FeedKind
+signal_of section = do
   value ← at_key feed_band_of section (codes "value")
   others ← no_others (codes "name" ∷ codes "kind" ∷ codes "value" ∷ []) section
-  Ok (record { name = name; kind = feed_kind.Signal value })
+  Ok (feed_kind.Signal value)
+
+abbrev pub kind_of : Section → Bool → Reading FeedKind
+kind_of section signal = if signal then signal_of section else material_of section
 
 -- whether a feed is a signal, by the name of its kind
 abbrev pub signal_named : Bytes → Option Bool
@@ -71,9 +76,9 @@ is_signal_of place node = do
   or_fault (signal_named text) (fault.OutOfRange place)
 
 -- a feed: its name, its kind, and the keys of its kind
-unfoldable pub feed_of : Bytes → Data → Reading FeedPart
-feed_of place node = do
-  section ← section_of place node
+unfoldable pub feed_of : Section → Reading FeedPart
+feed_of section = do
   name ← at_key name_of section (codes "name")
   signal ← at_key is_signal_of section (codes "kind")
-  if signal then signal_of section name else material_of section name
+  brings ← kind_of section signal
+  Ok (record { name = name; kind = brings })

@@ -4,3 +4,4 @@ pub mod Spots
 pub mod Feeds
 pub mod Units
 pub mod Plant
+pub mod Within

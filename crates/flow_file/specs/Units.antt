@@ -1,8 +1,8 @@
 -- The units of a plant text.
-use Rattle.std.specs.Prelude.{◌&&◌, ℤ, pos, neg_ℤ, int_le, Bool, if◌then◌else◌}
+use Rattle.std.specs.Prelude.{◌&&◌, ℤ, Bool, if◌then◌else◌}
 use Rattle.std.specs.Prelude.{List, [], ◌∷◌, bytes_eq, codes, Option, Some, None, Ok, unwrap_or}
 use Rattle.quant.specs.Interval.{Interval, wide}
-use Rattle.quant.specs.Operation.{million}
+use Rattle.parts.specs.InRange.{ppm, gains, holdups, slopes, most_rate_points, most_stages, fewest_inputs, most_inputs}
 use Rattle.parts.specs.declared.units.KindPart.{KindPart}
 use Rattle.parts.specs.declared.units.KindPart.TheVariants as part
 use Rattle.parts.specs.declared.units.OwnLimits.{OwnLimits}
@@ -12,22 +12,24 @@ use Rattle.flow_file.specs.declared.fault.TextFault.TheVariants as fault
 use Rattle.flow_file.specs.declared.units.UnitKind.{UnitKind}
 use Rattle.flow_file.specs.declared.units.UnitKind.TheVariants as kind
 use Rattle.flow_file.specs.declared.kinds.Contents.{Contents}
+use Rattle.flow_file.specs.declared.kinds.Reaction.{Reaction}
+use Rattle.flow_file.specs.declared.kinds.Stages.{Stages}
 use Rattle.flow_file.specs.declared.kinds.Opening.{Opening}
+use Rattle.flow_file.specs.declared.kinds.Settings.{Settings}
 use Rattle.flow_file.specs.Read.{Reading, ◌>>=◌}
-use Rattle.flow_file.specs.Value.{Bytes, or_fault, when, Section, section_of, at_key, at_optional, no_others}
-use Rattle.flow_file.specs.Value.{number_in, count_in, band_of, pair_of, text_of, name_of, reference_of, list_of}
+use Rattle.flow_file.specs.Value.{Bytes, or_fault, when, Section, table_of, at_key, at_optional, no_others}
+use Rattle.flow_file.specs.Value.{is_in, number_in, count_in, band_of, pair_of, text_of, name_of, reference_of, list_of}
 
--- the numbers from 0 to one million, and those that a gain may be
+-- a part of a whole, and a gain
 abbrev pub ppm_in : Bytes → Data → Reading ℤ
-ppm_in = number_in (pos 0) million
+ppm_in = number_in ppm
 
 abbrev pub gain_in : Bytes → Data → Reading ℤ
-gain_in = number_in (neg_ℤ (pos 1000000000)) (pos 1000000000)
+gain_in = number_in gains
 
 -- a point of a rate table: a temperature, and a rate
 abbrev pub is_rate_point : ℤ × ℤ → Bool
-is_rate_point point =
-    (int_le wide.lo point.0 && int_le point.0 wide.hi) && (int_le (pos 0) point.1 && int_le point.1 million)
+is_rate_point point = is_in wide point.0 && is_in ppm point.1
 
 unfoldable pub rate_point_of : Bytes → Data → Reading (ℤ × ℤ)
 rate_point_of place node = do
@@ -52,17 +54,23 @@ tank_of section = do
   held ← contents_of section
   Ok (part.Tank input valve k held.volume held.flow held.conc held.temp)
 
+-- what a reactor's contents do, and what they are at the first tick
+unfoldable pub reaction_of : Section → Reading Reaction
+reaction_of section = do
+  k ← at_key ppm_in section (codes "k")
+  rate ← at_key (list_of rate_point_of 1 most_rate_points) section (codes "rate")
+  heat ← at_key gain_in section (codes "heat")
+  ua ← at_key ppm_in section (codes "ua")
+  held ← contents_of section
+  Ok (record { k = k; rate = rate; heat = heat; ua = ua; held = held })
+
 unfoldable pub reactor_of : Section → Reading KindPart
 reactor_of section = do
   input ← at_key reference_of section (codes "in")
   valve ← at_key reference_of section (codes "valve")
   jacket ← at_key reference_of section (codes "jacket")
-  k ← at_key ppm_in section (codes "k")
-  rate ← at_key (list_of rate_point_of 1 64) section (codes "rate")
-  heat ← at_key gain_in section (codes "heat")
-  ua ← at_key ppm_in section (codes "ua")
-  held ← contents_of section
-  Ok (part.Reactor input valve jacket k rate heat ua held.volume held.flow held.conc held.temp)
+  its ← reaction_of section
+  Ok (part.Reactor input valve jacket its.k its.rate its.heat its.ua its.held.volume its.held.flow its.held.conc its.held.temp)
 
 -- the bands at two keys, a flow and a temperature
 unfoldable pub flow_and_temp_of : Section → Bytes → Bytes → Reading (Interval × Interval)
@@ -79,31 +87,44 @@ opening_of section = do
   vapour ← flow_and_temp_of section (codes "vapour_flow") (codes "vapour_temp")
   Ok (record { x = x; liquid_flow = liquid.0; liquid_temp = liquid.1; vapour_flow = vapour.0; vapour_temp = vapour.1 })
 
+-- the stages of a column, and what each holds and lets go
+unfoldable pub stages_of : Section → Reading Stages
+stages_of section = do
+  stages ← at_key (count_in 1 most_stages) section (codes "stages")
+  holdup ← at_key (number_in holdups) section (codes "holdup")
+  slope ← at_key (number_in slopes) section (codes "slope")
+  Ok (record { stages = stages; holdup = holdup; slope = slope })
+
 unfoldable pub column_of : Section → Reading KindPart
 column_of section = do
   liquid ← at_key reference_of section (codes "liquid")
   vapour ← at_key reference_of section (codes "vapour")
-  stages ← at_key (count_in 1 64) section (codes "stages")
-  holdup ← at_key (number_in (pos 1) (pos 1000000000000)) section (codes "holdup")
-  slope ← at_key (number_in (pos 0) (pos 1000000000)) section (codes "slope")
+  its ← stages_of section
   held ← opening_of section
-  Ok (part.Column liquid vapour stages holdup slope held.x held.liquid_flow held.liquid_temp held.vapour_flow held.vapour_temp)
+  Ok (part.Column liquid vapour
+      its.stages its.holdup its.slope held.x held.liquid_flow held.liquid_temp held.vapour_flow held.vapour_temp)
+
+-- the numbers and the bands of a controller
+unfoldable pub settings_of : Section → Reading Settings
+settings_of section = do
+  kp ← at_key gain_in section (codes "kp")
+  ki ← at_key gain_in section (codes "ki")
+  bias ← at_key (number_in wide) section (codes "bias")
+  integral_limits ← at_key band_of section (codes "integral_limits")
+  integral ← at_key band_of section (codes "integral")
+  out ← at_key band_of section (codes "out")
+  Ok (record { kp = kp; ki = ki; bias = bias; integral_limits = integral_limits; integral = integral; out = out })
 
 unfoldable pub controller_of : Section → Reading KindPart
 controller_of section = do
   set ← at_key reference_of section (codes "set")
   measured ← at_key reference_of section (codes "measured")
-  kp ← at_key gain_in section (codes "kp")
-  ki ← at_key gain_in section (codes "ki")
-  bias ← at_key (number_in wide.lo wide.hi) section (codes "bias")
-  integral_limits ← at_key band_of section (codes "integral_limits")
-  integral ← at_key band_of section (codes "integral")
-  out ← at_key band_of section (codes "out")
-  Ok (part.Controller set measured kp ki bias integral_limits integral out)
+  its ← settings_of section
+  Ok (part.Controller set measured its.kp its.ki its.bias its.integral_limits its.integral its.out)
 
 unfoldable pub mixer_of : Section → Reading KindPart
 mixer_of section = do
-  input ← at_key (list_of reference_of 2 8) section (codes "in")
+  input ← at_key (list_of reference_of fewest_inputs most_inputs) section (codes "in")
   Ok (part.Mixer input)
 
 unfoldable pub splitter_of : Section → Reading KindPart
@@ -130,7 +151,8 @@ unit_kind_of place node = do
 
 -- the keys of each kind
 unfoldable pub keys_of : UnitKind → List Bytes
-keys_of kind.Tank = codes "in" ∷ codes "valve" ∷ codes "k" ∷ codes "volume" ∷ codes "flow" ∷ codes "conc" ∷ codes "temp" ∷ []
+keys_of kind.Tank =
+    codes "in" ∷ codes "valve" ∷ codes "k" ∷ codes "volume" ∷ codes "flow" ∷ codes "conc" ∷ codes "temp" ∷ []
 keys_of kind.Reactor =
     codes "in" ∷ codes "valve" ∷ codes "jacket" ∷ codes "k" ∷ codes "rate" ∷ codes "heat" ∷ codes "ua"
     ∷ codes "volume" ∷ codes "flow" ∷ codes "conc" ∷ codes "temp" ∷ []
@@ -153,9 +175,8 @@ part_of kind.Mixer section = mixer_of section
 part_of kind.Splitter section = splitter_of section
 
 -- the limits that are a unit's own
-unfoldable pub own_limits_of : Bytes → Data → Reading OwnLimits
-own_limits_of place node = do
-  section ← section_of place node
+unfoldable pub own_limits_of : Section → Reading OwnLimits
+own_limits_of section = do
   flow ← at_optional band_of section (codes "flow")
   conc ← at_optional band_of section (codes "conc")
   temp ← at_optional band_of section (codes "temp")
@@ -170,14 +191,13 @@ no_limits = record { flow = None; conc = None; temp = None; volume = None; signa
 -- the limits of a unit, its own or none, behind which it has no other keys
 unfoldable pub last_limits_of : UnitKind → Section → Reading OwnLimits
 last_limits_of kind section = do
-  limits ← at_optional own_limits_of section (codes "limits")
+  limits ← at_optional (table_of own_limits_of) section (codes "limits")
   others ← no_others (codes "name" ∷ codes "kind" ∷ codes "limits" ∷ keys_of kind) section
   Ok (unwrap_or limits no_limits)
 
 -- a unit: its name, its kind, the keys of its kind, and its limits
-unfoldable pub unit_of : Bytes → Data → Reading UnitPart
-unit_of place node = do
-  section ← section_of place node
+unfoldable pub unit_of : Section → Reading UnitPart
+unit_of section = do
   name ← at_key name_of section (codes "name")
   kind ← at_key unit_kind_of section (codes "kind")
   part ← part_of kind section

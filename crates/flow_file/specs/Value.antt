@@ -1,9 +1,10 @@
 -- Values in the tree that a TOML text is, each at its place: a path of keys and of indices from 0.
-use Rattle.std.specs.Prelude.{◌&&◌, ◌++◌, ℕ, suc, ℤ, pos, nat_abs, nat_le, int_le, Bool, if◌then◌else◌}
+use Rattle.std.specs.Prelude.{◌&&◌, ◌++◌, ℕ, suc, ℤ, nat_abs, nat_le, int_le, Bool, if◌then◌else◌}
 use Rattle.std.specs.Prelude.{List, [], ◌∷◌, bytes_eq, codes, decimal, Option, Some, None, Ok, Err}
 use Rattle.std.specs.List.{list_any}
 use Rattle.std.specs.Str.{is_utf8}
 use Rattle.quant.specs.Interval.{Interval, wide}
+use Rattle.parts.specs.InRange.{from_to}
 use Rattle.plant_names.specs.Name.{is_name, is_reference}
 use Rattle.toml.specs.Data.{Data, Items, no_items, item, Members, no_members, member, get_member}
 use Rattle.toml.specs.Data.{as_integer, as_str, as_array, as_table}
@@ -46,6 +47,10 @@ section_of place node = do
   table ← or_fault (as_table node) (fault.WrongType place)
   Ok (record { prefix = place ++ codes "."; members = table })
 
+-- what is read of the keys of the table at a place
+unfoldable pub table_of : {A : Type 0} → (Section → Reading A) → Bytes → Data → Reading A
+table_of read place node = section_of place node >>= read
+
 -- the value at a key that is required, read at its place
 unfoldable pub at_key : {A : Type 0} → (Bytes → Data → Reading A) → Section → Bytes → Reading A
 at_key read section key = do
@@ -73,22 +78,28 @@ refuse_key section (Some key) = Err (fault.UnknownKey (key_place section key))
 unfoldable pub no_others : List Bytes → Section → Reading (Unit {0})
 no_others known section = refuse_key section (first_other known section.members)
 
--- a whole number from lo to hi
-unfoldable pub number_in : ℤ → ℤ → Bytes → Data → Reading ℤ
-number_in lo hi place node = do
-  number ← or_fault (as_integer node) (fault.WrongType place)
-  when (int_le lo number && int_le number hi) number (fault.OutOfRange place)
+-- whether a number lies in a range
+abbrev pub is_in : Interval → ℤ → Bool
+is_in range number = int_le range.lo number && int_le number range.hi
 
--- a whole number from lo to hi that is not negative
+-- a whole number of a range
+unfoldable pub number_in : Interval → Bytes → Data → Reading ℤ
+number_in range place node = do
+  number ← or_fault (as_integer node) (fault.WrongType place)
+  when (is_in range number) number (fault.OutOfRange place)
+
+-- a whole number from the least to the most, which are not negative
 unfoldable pub count_in : ℕ → ℕ → Bytes → Data → Reading ℕ
-count_in lo hi place node = do
-  number ← number_in (pos lo) (pos hi) place node
+count_in least most place node = do
+  number ← number_in (from_to least most) place node
   Ok (nat_abs number)
 
 -- the band from lo to hi, where both are wide numbers in this order
 unfoldable pub band_between : Bytes → ℤ → ℤ → Reading Interval
 band_between place lo hi =
-    when ((int_le wide.lo lo && int_le lo hi) && int_le hi wide.hi) (record { lo = lo; hi = hi }) (fault.OutOfRange place)
+    when ((int_le wide.lo lo && int_le lo hi) && int_le hi wide.hi)
+    (record { lo = lo; hi = hi })
+    (fault.OutOfRange place)
 
 -- the two whole numbers of an array, and the three
 abbrev pub both : {A B : Type 0} → Option A → Option B → Option (A × B)

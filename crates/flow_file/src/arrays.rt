@@ -9,13 +9,14 @@ ghost use Rattle.flow_file.specs.Spots.{place_of};
 
 use crate::fault::Unread;
 use crate::reader::Reader;
-use crate::spot::Spot;
+use crate::spot::{Refusal, Spot};
+use parts::Listed;
 use std::alloc::Global;
 use toml::Value;
 use toml::value::Array;
 
 /// An array of `least` to `most` values.
-#[tactic(auto, using(crate::proofs::Lists::item_count_is_length), unfolding(crate::specs::Value::array_between))]
+#[tactic(auto, using(crate::proofs::Refusals::refused, crate::proofs::Lists::item_count_is_length), unfolding(crate::specs::Value::array_between))]
 fn array_between<'a>(
     alloc: Global,
     spot: Spot,
@@ -28,13 +29,13 @@ fn array_between<'a>(
     ensures length { IfOk result (λ array. (least ≤ vec_len array.now) × (vec_len array.now ≤ most)) }
 {
     let Some(array) = node.as_array() else {
-        return Err(spot.wrong_type(alloc)?);
+        return Err(spot.refused(alloc, Refusal::WrongType));
     };
     if most < array.len() {
-        return Err(spot.too_many(alloc)?);
+        return Err(spot.refused(alloc, Refusal::TooMany));
     }
     if array.len() < least {
-        return Err(spot.out_of_range(alloc)?);
+        return Err(spot.refused(alloc, Refusal::OutOfRange));
     }
     Ok(array)
 }
@@ -63,22 +64,27 @@ fn items_of<R: Reader>(
     Ok(items)
 }
 
-/// The values of an array of `least` to `most` at a spot.
-#[tactic(auto, unfolding(crate::specs::Value::list_of))]
-pub(crate) fn list_at<R: Reader>(
-    alloc: Global,
-    spot: Spot,
-    node: &Value,
-    reader: R,
-    least: usize,
-    most: usize,
-) -> Result<Vec<R::Item>, Unread>
-    ensures exact { GivesBy (λ items. items.items) result
-        (list_of (R.reads reader) least most (place_of spot.entry) (view node.now)) }
-    ensures length { IfOk result (λ items. (least ≤ length items.items) × (length items.items ≤ most)) }
-    ensures inside { IfOk result (λ items. AllByRecursion (R.may_be reader) items.items) }
-{
-    let array = array_between(alloc, spot, node, least, most)?;
-    let place = spot.text(alloc)?;
-    items_of(alloc, place.as_str(), array, reader)
+/// A list of `least` to `most` values, each read by one reader.
+#[derive(Clone, Copy)]
+pub(crate) struct ListOf<R> {
+    pub each: R,
+    pub least: usize,
+    pub most: usize,
+}
+
+impl<R: Reader> Reader for ListOf<R> {
+    type Item = Listed<R::Item>;
+
+    ghost reads = { λ list. list_of (R.reads list.each) list.least list.most };
+
+    ghost may_be = { λ list items.
+        (list.least ≤ length items) × (length items ≤ list.most) × AllByRecursion (R.may_be list.each) items };
+
+    #[tactic(auto, unfolding(crate::specs::Value::list_of))]
+    fn read(self, alloc: Global, spot: Spot, node: &Value) -> Result<Listed<R::Item>, Unread> {
+        let array = array_between(alloc, spot, node, self.least, self.most)?;
+        let place = spot.text(alloc)?;
+        let items = items_of(alloc, place.as_str(), array, self.each)?;
+        Ok(Listed::new(items))
+    }
 }

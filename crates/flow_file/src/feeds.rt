@@ -1,28 +1,30 @@
 //! Readers of the feeds of a plant text.
 
 ghost use Rattle.std.specs.Prelude.{◌≡◌, IfOk};
-ghost use Rattle.parts.specs.InRange.{IsName, IsPiece, ArePieces, IsFeedBand, IsFeedPart};
+ghost use Rattle.parts.specs.InRange.{IsPiece, IsFeedBand, IsFeedKind, IsFeedPart};
 ghost use Rattle.toml.specs.Data.{as_array};
 ghost use Rattle.toml.specs.View.{view};
 ghost use Rattle.flow_file.specs.Read.{Gives};
-ghost use Rattle.flow_file.specs.Value.{list_of};
 ghost use Rattle.flow_file.specs.Feeds.{piece_of, begins_with_array, feed_band_of};
-ghost use Rattle.flow_file.specs.Feeds.{material_of, signal_of, signal_named, is_signal_of, feed_of};
+ghost use Rattle.flow_file.specs.Feeds.{material_of, signal_of, kind_of, signal_named, is_signal_of, feed_of};
 ghost use Rattle.flow_file.specs.Spots.{seen};
 
-use crate::arrays::list_at;
+use crate::arrays::ListOf;
 use crate::fault::Unread;
 use crate::reader::Reader;
-use crate::section::{Section, section_at};
-use crate::spot::Spot;
-use crate::values::{Name, WideBand, band_between, text_at, triple_of};
-use parts::{FeedBand, FeedKind, FeedPart, Piece, Pieces};
-use plant_names::Text;
+use crate::section::Section;
+use crate::spot::{Refusal, Spot};
+use crate::tables::KeysReader;
+use crate::values::{Name, NumberIn, WideBand, band_between, text_at, triple_of};
+use parts::{FeedBand, FeedKind, FeedPart, Piece};
 use std::alloc::Global;
 use toml::Value;
 
-/// The greatest tick of a piece.
-const LAST_PIECE: i64 = 1_000_000_000;
+/// The tick at which a piece begins.
+const BEGIN: NumberIn = NumberIn {
+    lo: 0,
+    hi: 1_000_000_000,
+};
 
 /// A piece: its tick, and the ends of its band.
 #[derive(Clone, Copy)]
@@ -35,13 +37,13 @@ impl Reader for PieceReader {
 
     ghost may_be = { λ _. IsPiece };
 
-    #[tactic(auto, using(crate::proofs::Lists::one_refusal), unfolding(crate::specs::Feeds::piece_of))]
+    #[tactic(auto, using(crate::proofs::Refusals::refused, crate::proofs::Lists::one_refusal), unfolding(crate::specs::Feeds::piece_of))]
     fn read(self, alloc: Global, spot: Spot, node: &Value) -> Result<Piece, Unread> {
         let Some((tick, (lo, hi))) = triple_of(node) else {
-            return Err(spot.wrong_type(alloc)?);
+            return Err(spot.refused(alloc, Refusal::WrongType));
         };
-        if tick < 0 || LAST_PIECE < tick {
-            return Err(spot.out_of_range(alloc)?);
+        if !BEGIN.holds(tick) {
+            return Err(spot.refused(alloc, Refusal::OutOfRange));
         }
         let band = band_between(alloc, spot, lo, hi)?;
         Ok(Piece {
@@ -52,21 +54,11 @@ impl Reader for PieceReader {
 }
 
 /// The pieces of a band.
-#[derive(Clone, Copy)]
-struct PiecesReader;
-
-impl Reader for PiecesReader {
-    type Item = Pieces;
-
-    ghost reads = { λ _. list_of piece_of 1 1000 };
-
-    ghost may_be = { λ _. ArePieces };
-
-    fn read(self, alloc: Global, spot: Spot, node: &Value) -> Result<Pieces, Unread> {
-        let pieces = list_at(alloc, spot, node, PieceReader, 1, 1000)?;
-        Ok(Pieces::new(pieces))
-    }
-}
+const PIECES: ListOf<PieceReader> = ListOf {
+    each: PieceReader,
+    least: 1,
+    most: 1000,
+};
 
 /// Whether a value is an array whose first value is an array.
 fn begins_with_array(node: &Value) -> bool
@@ -95,7 +87,7 @@ impl Reader for FeedBandReader {
     #[tactic(auto, unfolding(crate::specs::Feeds::feed_band_of, crate::specs::Feeds::pieces_of))]
     fn read(self, alloc: Global, spot: Spot, node: &Value) -> Result<FeedBand, Unread> {
         if begins_with_array(node) {
-            let pieces = PiecesReader.read(alloc, spot, node)?;
+            let pieces = PIECES.read(alloc, spot, node)?;
             Ok(FeedBand::Pieces { pieces })
         } else {
             let band = WideBand.read(alloc, spot, node)?;
@@ -104,32 +96,40 @@ impl Reader for FeedBandReader {
     }
 }
 
-/// The rest of a material feed.
+/// What a material feed brings.
 #[tactic(auto, unfolding(crate::specs::Feeds::material_of))]
-fn material_of(alloc: Global, section: &Section, name: Text) -> Result<FeedPart, Unread>
-    requires { IsName name }
-    ensures exact { Gives result (material_of (seen section.now) name) }
-    ensures inside { IfOk result IsFeedPart }
+fn material_of(alloc: Global, section: &Section) -> Result<FeedKind, Unread>
+    ensures exact { Gives result (material_of (seen section.now)) }
+    ensures inside { IfOk result IsFeedKind }
 {
     let flow = section.read(alloc, "flow", FeedBandReader)?;
     let conc = section.read(alloc, "conc", FeedBandReader)?;
     let temp = section.read(alloc, "temp", FeedBandReader)?;
     section.no_others(alloc, &["name", "kind", "flow", "conc", "temp"])?;
-    let kind = FeedKind::Material { flow, conc, temp };
-    Ok(FeedPart { name, kind })
+    Ok(FeedKind::Material { flow, conc, temp })
 }
 
-/// The rest of a signal feed.
+/// What a signal feed brings.
 #[tactic(auto, unfolding(crate::specs::Feeds::signal_of))]
-fn signal_of(alloc: Global, section: &Section, name: Text) -> Result<FeedPart, Unread>
-    requires { IsName name }
-    ensures exact { Gives result (signal_of (seen section.now) name) }
-    ensures inside { IfOk result IsFeedPart }
+fn signal_of(alloc: Global, section: &Section) -> Result<FeedKind, Unread>
+    ensures exact { Gives result (signal_of (seen section.now)) }
+    ensures inside { IfOk result IsFeedKind }
 {
     let value = section.read(alloc, "value", FeedBandReader)?;
     section.no_others(alloc, &["name", "kind", "value"])?;
-    let kind = FeedKind::Signal { value };
-    Ok(FeedPart { name, kind })
+    Ok(FeedKind::Signal { value })
+}
+
+/// What a feed brings.
+fn kind_of(alloc: Global, section: &Section, is_signal: bool) -> Result<FeedKind, Unread>
+    ensures exact { Gives result (kind_of (seen section.now) is_signal) }
+    ensures inside { IfOk result IsFeedKind }
+{
+    if is_signal {
+        signal_of(alloc, section)
+    } else {
+        material_of(alloc, section)
+    }
 }
 
 /// Whether a feed of this kind is a signal.
@@ -154,12 +154,12 @@ impl Reader for SignalReader {
 
     ghost may_be = { λ _ _. Unit {0} };
 
-    #[tactic(auto, unfolding(crate::specs::Feeds::is_signal_of))]
+    #[tactic(auto, using(crate::proofs::Refusals::refused), unfolding(crate::specs::Feeds::is_signal_of))]
     fn read(self, alloc: Global, spot: Spot, node: &Value) -> Result<bool, Unread> {
         let text = text_at(alloc, spot, node)?;
         match signal_named(text) {
             Some(is_signal) => Ok(is_signal),
-            None => Err(spot.out_of_range(alloc)?),
+            None => Err(spot.refused(alloc, Refusal::OutOfRange)),
         }
     }
 }
@@ -168,7 +168,7 @@ impl Reader for SignalReader {
 #[derive(Clone, Copy)]
 pub(crate) struct FeedReader;
 
-impl Reader for FeedReader {
+impl KeysReader for FeedReader {
     type Item = FeedPart;
 
     ghost reads = { λ _. feed_of };
@@ -176,13 +176,10 @@ impl Reader for FeedReader {
     ghost may_be = { λ _. IsFeedPart };
 
     #[tactic(auto, unfolding(crate::specs::Feeds::feed_of))]
-    fn read(self, alloc: Global, spot: Spot, node: &Value) -> Result<FeedPart, Unread> {
-        let section = section_at(alloc, spot, node)?;
+    fn read_keys(self, alloc: Global, section: &Section) -> Result<FeedPart, Unread> {
         let name = section.read(alloc, "name", Name)?;
-        if section.read(alloc, "kind", SignalReader)? {
-            signal_of(alloc, &section, name)
-        } else {
-            material_of(alloc, &section, name)
-        }
+        let is_signal = section.read(alloc, "kind", SignalReader)?;
+        let kind = kind_of(alloc, section, is_signal)?;
+        Ok(FeedPart { name, kind })
     }
 }

@@ -1,21 +1,22 @@
 //! Readers of what a unit of each kind says.
 
 ghost use Rattle.std.specs.Prelude.{IfOk};
-ghost use Rattle.parts.specs.InRange.{IsWide, IsRatePoint, AreRatePoints, AreInputs, IsKindPart};
+ghost use Rattle.parts.specs.InRange.{IsWide, IsRatePoint, IsKindPart};
 ghost use Rattle.parts.specs.InRange.{AreContents, AreColumnBands};
 ghost use Rattle.flow_file.specs.Read.{Gives};
-ghost use Rattle.flow_file.specs.Value.{list_of, reference_of};
 ghost use Rattle.flow_file.specs.Units.{rate_point_of, contents_of, flow_and_temp_of, opening_of};
-ghost use Rattle.flow_file.specs.Units.{tank_of, reactor_of, column_of, controller_of, mixer_of, splitter_of};
+ghost use Rattle.flow_file.specs.Units.{tank_of, reaction_of, reactor_of, stages_of, column_of, settings_of, controller_of};
+ghost use Rattle.flow_file.specs.Units.{mixer_of, splitter_of};
+ghost use Rattle.flow_file.specs.Within.{IsReaction, AreStages, AreSettings};
 ghost use Rattle.flow_file.specs.Spots.{seen};
 
-use crate::arrays::list_at;
+use crate::arrays::ListOf;
 use crate::fault::Unread;
 use crate::reader::Reader;
 use crate::section::Section;
-use crate::spot::Spot;
+use crate::spot::{Refusal, Spot};
 use crate::values::{CountIn, NumberIn, Reference, WIDEST, WideBand, pair_of};
-use parts::{KindPart, RatePoints, Texts};
+use parts::{KindPart, RatePoints};
 use quant::{Band, MILLION};
 use std::alloc::Global;
 use toml::Value;
@@ -29,6 +30,24 @@ const GAIN: NumberIn = NumberIn {
     hi: 1_000_000_000,
 };
 
+/// What a stage of a column holds, in mL.
+const HOLDUP: NumberIn = NumberIn { lo: 1, hi: WIDEST };
+
+/// How a column's vapour stands to its liquid, in ppm.
+const SLOPE: NumberIn = NumberIn {
+    lo: 0,
+    hi: 1_000_000_000,
+};
+
+/// A wide number.
+const WIDE: NumberIn = NumberIn {
+    lo: -WIDEST,
+    hi: WIDEST,
+};
+
+/// The stages of a column.
+const STAGES: CountIn = CountIn { least: 1, most: 64 };
+
 /// What a tank or a reactor holds at the first tick.
 #[derive(Clone, Copy)]
 pub(crate) struct Contents {
@@ -36,6 +55,24 @@ pub(crate) struct Contents {
     pub flow: Band,
     pub conc: Band,
     pub temp: Band,
+}
+
+/// What a reactor's contents do, and what they are at the first tick.
+#[derive(Drop)]
+pub(crate) struct Reaction {
+    pub k: i64,
+    pub rate: RatePoints,
+    pub heat: i64,
+    pub ua: i64,
+    pub held: Contents,
+}
+
+/// The stages of a column, and what each holds and lets go.
+#[derive(Clone, Copy)]
+pub(crate) struct Stages {
+    pub stages: u32,
+    pub holdup: i64,
+    pub slope: i64,
 }
 
 /// What a column starts from.
@@ -46,6 +83,17 @@ pub(crate) struct Opening {
     pub liquid_temp: Band,
     pub vapour_flow: Band,
     pub vapour_temp: Band,
+}
+
+/// The numbers and the bands of a controller.
+#[derive(Clone, Copy)]
+pub(crate) struct Settings {
+    pub kp: i64,
+    pub ki: i64,
+    pub bias: i64,
+    pub integral_limits: Band,
+    pub integral: Band,
+    pub out: Band,
 }
 
 /// A point of a rate table: a temperature in mK, and the ppm that react in a tick.
@@ -59,51 +107,31 @@ impl Reader for RatePointReader {
 
     ghost may_be = { λ _. IsRatePoint };
 
-    #[tactic(auto, using(crate::proofs::Lists::one_refusal), unfolding(crate::specs::Units::rate_point_of))]
+    #[tactic(auto, using(crate::proofs::Refusals::refused, crate::proofs::Lists::one_refusal), unfolding(crate::specs::Units::rate_point_of))]
     fn read(self, alloc: Global, spot: Spot, node: &Value) -> Result<(i64, i64), Unread> {
         let Some((temp, ppm)) = pair_of(node) else {
-            return Err(spot.wrong_type(alloc)?);
+            return Err(spot.refused(alloc, Refusal::WrongType));
         };
-        if temp < -WIDEST || WIDEST < temp || ppm < 0 || MILLION < ppm {
-            return Err(spot.out_of_range(alloc)?);
+        if !WIDE.holds(temp) || !PPM.holds(ppm) {
+            return Err(spot.refused(alloc, Refusal::OutOfRange));
         }
         Ok((temp, ppm))
     }
 }
 
 /// The points of a rate table.
-#[derive(Clone, Copy)]
-struct RatePointsReader;
-
-impl Reader for RatePointsReader {
-    type Item = RatePoints;
-
-    ghost reads = { λ _. list_of rate_point_of 1 64 };
-
-    ghost may_be = { λ _. AreRatePoints };
-
-    fn read(self, alloc: Global, spot: Spot, node: &Value) -> Result<RatePoints, Unread> {
-        let points = list_at(alloc, spot, node, RatePointReader, 1, 64)?;
-        Ok(RatePoints::new(points))
-    }
-}
+const RATE_POINTS: ListOf<RatePointReader> = ListOf {
+    each: RatePointReader,
+    least: 1,
+    most: 64,
+};
 
 /// What a mixer reads.
-#[derive(Clone, Copy)]
-struct InputsReader;
-
-impl Reader for InputsReader {
-    type Item = Texts;
-
-    ghost reads = { λ _. list_of reference_of 2 8 };
-
-    ghost may_be = { λ _. AreInputs };
-
-    fn read(self, alloc: Global, spot: Spot, node: &Value) -> Result<Texts, Unread> {
-        let inputs = list_at(alloc, spot, node, Reference, 2, 8)?;
-        Ok(Texts::new(inputs))
-    }
-}
+const INPUTS: ListOf<Reference> = ListOf {
+    each: Reference,
+    least: 2,
+    most: 8,
+};
 
 /// What a tank or a reactor holds at the first tick.
 #[tactic(auto, unfolding(crate::specs::Units::contents_of))]
@@ -143,6 +171,26 @@ pub(crate) fn tank_of(alloc: Global, section: &Section) -> Result<KindPart, Unre
     })
 }
 
+/// What a reactor's contents do, and what they are at the first tick.
+#[tactic(auto, unfolding(crate::specs::Units::reaction_of))]
+fn reaction_of(alloc: Global, section: &Section) -> Result<Reaction, Unread>
+    ensures exact { Gives result (reaction_of (seen section.now)) }
+    ensures inside { IfOk result IsReaction }
+{
+    let k = section.read(alloc, "k", PPM)?;
+    let rate = section.read(alloc, "rate", RATE_POINTS)?;
+    let heat = section.read(alloc, "heat", GAIN)?;
+    let ua = section.read(alloc, "ua", PPM)?;
+    let held = contents_of(alloc, section)?;
+    Ok(Reaction {
+        k,
+        rate,
+        heat,
+        ua,
+        held,
+    })
+}
+
 #[tactic(auto, unfolding(crate::specs::Units::reactor_of))]
 pub(crate) fn reactor_of(alloc: Global, section: &Section) -> Result<KindPart, Unread>
     ensures exact { Gives result (reactor_of (seen section.now)) }
@@ -151,23 +199,19 @@ pub(crate) fn reactor_of(alloc: Global, section: &Section) -> Result<KindPart, U
     let input = section.read(alloc, "in", Reference)?;
     let valve = section.read(alloc, "valve", Reference)?;
     let jacket = section.read(alloc, "jacket", Reference)?;
-    let k = section.read(alloc, "k", PPM)?;
-    let rate = section.read(alloc, "rate", RatePointsReader)?;
-    let heat = section.read(alloc, "heat", GAIN)?;
-    let ua = section.read(alloc, "ua", PPM)?;
-    let held = contents_of(alloc, section)?;
+    let its = reaction_of(alloc, section)?;
     Ok(KindPart::Reactor {
         input,
         valve,
         jacket,
-        k,
-        rate,
-        heat,
-        ua,
-        volume: held.volume,
-        flow: held.flow,
-        conc: held.conc,
-        temp: held.temp,
+        k: its.k,
+        rate: its.rate,
+        heat: its.heat,
+        ua: its.ua,
+        volume: its.held.volume,
+        flow: its.held.flow,
+        conc: its.held.conc,
+        temp: its.held.temp,
     })
 }
 
@@ -216,6 +260,22 @@ fn opening_of(alloc: Global, section: &Section) -> Result<Opening, Unread>
     })
 }
 
+/// The stages of a column, and what each holds and lets go.
+#[tactic(auto, unfolding(crate::specs::Units::stages_of))]
+fn stages_of(alloc: Global, section: &Section) -> Result<Stages, Unread>
+    ensures exact { Gives result (stages_of (seen section.now)) }
+    ensures inside { IfOk result AreStages }
+{
+    let stages = section.read(alloc, "stages", STAGES)?;
+    let holdup = section.read(alloc, "holdup", HOLDUP)?;
+    let slope = section.read(alloc, "slope", SLOPE)?;
+    Ok(Stages {
+        stages,
+        holdup,
+        slope,
+    })
+}
+
 #[tactic(auto, unfolding(crate::specs::Units::column_of))]
 pub(crate) fn column_of(alloc: Global, section: &Section) -> Result<KindPart, Unread>
     ensures exact { Gives result (column_of (seen section.now)) }
@@ -223,21 +283,41 @@ pub(crate) fn column_of(alloc: Global, section: &Section) -> Result<KindPart, Un
 {
     let liquid = section.read(alloc, "liquid", Reference)?;
     let vapour = section.read(alloc, "vapour", Reference)?;
-    let stages = section.read(alloc, "stages", CountIn { least: 1, most: 64 })?;
-    let holdup = section.read(alloc, "holdup", NumberIn { lo: 1, hi: WIDEST })?;
-    let slope = section.read(alloc, "slope", NumberIn { lo: 0, hi: GAIN.hi })?;
+    let its = stages_of(alloc, section)?;
     let held = opening_of(alloc, section)?;
     Ok(KindPart::Column {
         liquid,
         vapour,
-        stages,
-        holdup,
-        slope,
+        stages: its.stages,
+        holdup: its.holdup,
+        slope: its.slope,
         x: held.x,
         liquid_flow: held.liquid_flow,
         liquid_temp: held.liquid_temp,
         vapour_flow: held.vapour_flow,
         vapour_temp: held.vapour_temp,
+    })
+}
+
+/// The numbers and the bands of a controller.
+#[tactic(auto, unfolding(crate::specs::Units::settings_of))]
+fn settings_of(alloc: Global, section: &Section) -> Result<Settings, Unread>
+    ensures exact { Gives result (settings_of (seen section.now)) }
+    ensures inside { IfOk result AreSettings }
+{
+    let kp = section.read(alloc, "kp", GAIN)?;
+    let ki = section.read(alloc, "ki", GAIN)?;
+    let bias = section.read(alloc, "bias", WIDE)?;
+    let integral_limits = section.read(alloc, "integral_limits", WideBand)?;
+    let integral = section.read(alloc, "integral", WideBand)?;
+    let out = section.read(alloc, "out", WideBand)?;
+    Ok(Settings {
+        kp,
+        ki,
+        bias,
+        integral_limits,
+        integral,
+        out,
     })
 }
 
@@ -248,28 +328,16 @@ pub(crate) fn controller_of(alloc: Global, section: &Section) -> Result<KindPart
 {
     let set = section.read(alloc, "set", Reference)?;
     let measured = section.read(alloc, "measured", Reference)?;
-    let kp = section.read(alloc, "kp", GAIN)?;
-    let ki = section.read(alloc, "ki", GAIN)?;
-    let bias = section.read(
-        alloc,
-        "bias",
-        NumberIn {
-            lo: -WIDEST,
-            hi: WIDEST,
-        },
-    )?;
-    let integral_limits = section.read(alloc, "integral_limits", WideBand)?;
-    let integral = section.read(alloc, "integral", WideBand)?;
-    let out = section.read(alloc, "out", WideBand)?;
+    let its = settings_of(alloc, section)?;
     Ok(KindPart::Controller {
         set,
         measured,
-        kp,
-        ki,
-        bias,
-        integral_limits,
-        integral,
-        out,
+        kp: its.kp,
+        ki: its.ki,
+        bias: its.bias,
+        integral_limits: its.integral_limits,
+        integral: its.integral,
+        out: its.out,
     })
 }
 
@@ -278,7 +346,7 @@ pub(crate) fn mixer_of(alloc: Global, section: &Section) -> Result<KindPart, Unr
     ensures exact { Gives result (mixer_of (seen section.now)) }
     ensures inside { IfOk result IsKindPart }
 {
-    let input = section.read(alloc, "in", InputsReader)?;
+    let input = section.read(alloc, "in", INPUTS)?;
     Ok(KindPart::Mixer { input })
 }
 

@@ -10,6 +10,7 @@ mod plant;
 mod reader;
 mod section;
 mod spot;
+mod tables;
 mod units;
 mod values;
 

@@ -1,31 +1,39 @@
 //! The reading of a whole plant text.
 
 ghost use Rattle.std.specs.Prelude.{◌≤◌, IfOk};
-ghost use Rattle.parts.specs.InRange.{AreWideLimits, AreWidths, AreFeeds, AreUnits};
+ghost use Rattle.parts.specs.InRange.{most_ticks, longest_window, AreWideLimits, AreWidths, AreFeeds};
 ghost use Rattle.toml.specs.View.{table_view};
 ghost use Rattle.flow_file.specs.Read.{Gives, GivesBy};
-ghost use Rattle.flow_file.specs.Value.{list_of, tree_of};
-ghost use Rattle.flow_file.specs.Feeds.{feed_of};
-ghost use Rattle.flow_file.specs.Units.{unit_of};
+ghost use Rattle.flow_file.specs.Value.{tree_of};
 ghost use Rattle.flow_file.specs.Spots.{seen};
 ghost use Rattle.flow_file.specs.Plant.{format_of, run_of, limits_of, widths_of};
-ghost use Rattle.flow_file.specs.Plant.{widths_at, feeds_at, frame_of, parts_of, parts_in};
+ghost use Rattle.flow_file.specs.Plant.{widths_at, feeds_at, frame_of, parts_at, parts_of, parts_in};
 
-use crate::arrays::list_at;
+use crate::arrays::ListOf;
 use crate::fault::{TextFault, Unread};
 use crate::feeds::FeedReader;
 use crate::reader::Reader;
-use crate::section::{Section, section_at};
-use crate::spot::Spot;
+use crate::section::Section;
+use crate::spot::{Refusal, Spot};
+use crate::tables::{KeysReader, TableOf};
 use crate::units::UnitReader;
 use crate::values::{CountIn, NumberIn, WideBand};
-use parts::{FeedParts, Parts, UnitParts, Widths};
+use parts::{FeedParts, Parts, Widths};
 use quant::Limits;
 use std::alloc::Global;
 use toml::{Table, Value};
 
 /// The most feeds, and the most units.
 const MOST: usize = 256;
+
+/// The ticks of a run.
+const TICKS: CountIn = CountIn {
+    least: 1,
+    most: 100_000,
+};
+
+/// The ticks of a window.
+const WINDOW: CountIn = CountIn { least: 1, most: 64 };
 
 /// A width that may be asked for.
 const WIDTH: NumberIn = NumberIn {
@@ -73,10 +81,10 @@ impl Reader for FormatReader {
 
     ghost may_be = { λ _ _. Unit {0} };
 
-    #[tactic(auto, unfolding(crate::specs::Plant::format_of))]
+    #[tactic(auto, using(crate::proofs::Refusals::refused), unfolding(crate::specs::Plant::format_of))]
     fn read(self, alloc: Global, spot: Spot, node: &Value) -> Result<i64, Unread> {
         let Some(found) = node.as_integer() else {
-            return Err(spot.wrong_type(alloc)?);
+            return Err(spot.refused(alloc, Refusal::WrongType));
         };
         if found != 1 {
             return Err(Unread::Fault(TextFault::Format { found }));
@@ -89,25 +97,17 @@ impl Reader for FormatReader {
 #[derive(Clone, Copy)]
 struct RunReader;
 
-impl Reader for RunReader {
+impl KeysReader for RunReader {
     type Item = (u32, u32);
 
     ghost reads = { λ _. run_of };
 
-    ghost may_be = { λ _ run. (1 ≤ run.0) × (run.0 ≤ 100000) × (1 ≤ run.1) × (run.1 ≤ 64) };
+    ghost may_be = { λ _ run. (1 ≤ run.0) × (run.0 ≤ most_ticks) × (1 ≤ run.1) × (run.1 ≤ longest_window) };
 
     #[tactic(auto, unfolding(crate::specs::Plant::run_of))]
-    fn read(self, alloc: Global, spot: Spot, node: &Value) -> Result<(u32, u32), Unread> {
-        let section = section_at(alloc, spot, node)?;
-        let ticks = section.read(
-            alloc,
-            "ticks",
-            CountIn {
-                least: 1,
-                most: 100_000,
-            },
-        )?;
-        let window = section.read(alloc, "window", CountIn { least: 1, most: 64 })?;
+    fn read_keys(self, alloc: Global, section: &Section) -> Result<(u32, u32), Unread> {
+        let ticks = section.read(alloc, "ticks", TICKS)?;
+        let window = section.read(alloc, "window", WINDOW)?;
         section.no_others(alloc, &["ticks", "window"])?;
         Ok((ticks, window))
     }
@@ -117,7 +117,7 @@ impl Reader for RunReader {
 #[derive(Clone, Copy)]
 struct LimitsReader;
 
-impl Reader for LimitsReader {
+impl KeysReader for LimitsReader {
     type Item = Limits;
 
     ghost reads = { λ _. limits_of };
@@ -125,8 +125,7 @@ impl Reader for LimitsReader {
     ghost may_be = { λ _. AreWideLimits };
 
     #[tactic(auto, unfolding(crate::specs::Plant::limits_of))]
-    fn read(self, alloc: Global, spot: Spot, node: &Value) -> Result<Limits, Unread> {
-        let section = section_at(alloc, spot, node)?;
+    fn read_keys(self, alloc: Global, section: &Section) -> Result<Limits, Unread> {
         let flow = section.read(alloc, "flow", WideBand)?;
         let conc = section.read(alloc, "conc", WideBand)?;
         let temp = section.read(alloc, "temp", WideBand)?;
@@ -147,7 +146,7 @@ impl Reader for LimitsReader {
 #[derive(Clone, Copy)]
 struct WidthsReader;
 
-impl Reader for WidthsReader {
+impl KeysReader for WidthsReader {
     type Item = Widths;
 
     ghost reads = { λ _. widths_of };
@@ -155,8 +154,7 @@ impl Reader for WidthsReader {
     ghost may_be = { λ _. AreWidths };
 
     #[tactic(auto, unfolding(crate::specs::Plant::widths_of))]
-    fn read(self, alloc: Global, spot: Spot, node: &Value) -> Result<Widths, Unread> {
-        let section = section_at(alloc, spot, node)?;
+    fn read_keys(self, alloc: Global, section: &Section) -> Result<Widths, Unread> {
         let flow = section.read_optional(alloc, "flow", WIDTH)?;
         let conc = section.read_optional(alloc, "conc", WIDTH)?;
         let temp = section.read_optional(alloc, "temp", WIDTH)?;
@@ -172,38 +170,18 @@ impl Reader for WidthsReader {
 }
 
 /// The feeds.
-#[derive(Clone, Copy)]
-struct FeedsReader;
-
-impl Reader for FeedsReader {
-    type Item = FeedParts;
-
-    ghost reads = { λ _. list_of feed_of 0 256 };
-
-    ghost may_be = { λ _. AreFeeds };
-
-    fn read(self, alloc: Global, spot: Spot, node: &Value) -> Result<FeedParts, Unread> {
-        let feeds = list_at(alloc, spot, node, FeedReader, 0, MOST)?;
-        Ok(FeedParts::new(feeds))
-    }
-}
+const FEEDS: ListOf<TableOf<FeedReader>> = ListOf {
+    each: TableOf { keys: FeedReader },
+    least: 0,
+    most: MOST,
+};
 
 /// The units.
-#[derive(Clone, Copy)]
-struct UnitsReader;
-
-impl Reader for UnitsReader {
-    type Item = UnitParts;
-
-    ghost reads = { λ _. list_of unit_of 1 256 };
-
-    ghost may_be = { λ _. AreUnits };
-
-    fn read(self, alloc: Global, spot: Spot, node: &Value) -> Result<UnitParts, Unread> {
-        let units = list_at(alloc, spot, node, UnitReader, 1, MOST)?;
-        Ok(UnitParts::new(units))
-    }
-}
+const UNITS: ListOf<TableOf<UnitReader>> = ListOf {
+    each: TableOf { keys: UnitReader },
+    least: 1,
+    most: MOST,
+};
 
 /// The widths that the text asks for, or none.
 #[tactic(auto, unfolding(crate::specs::Plant::widths_at))]
@@ -211,7 +189,7 @@ fn widths_at(alloc: Global, top: &Section) -> Result<Widths, Unread>
     ensures exact { Gives result (widths_at (seen top.now)) }
     ensures inside { IfOk result AreWidths }
 {
-    let found = top.read_optional(alloc, "width", WidthsReader)?;
+    let found = top.read_optional(alloc, "width", TableOf { keys: WidthsReader })?;
     Ok(found.unwrap_or(NO_WIDTHS))
 }
 
@@ -221,7 +199,7 @@ fn feeds_at(alloc: Global, top: &Section) -> Result<FeedParts, Unread>
     ensures exact { Gives result (feeds_at (seen top.now)) }
     ensures inside { IfOk result AreFeeds }
 {
-    let found = top.read_optional(alloc, "feed", FeedsReader)?;
+    let found = top.read_optional(alloc, "feed", FEEDS)?;
     match found {
         Some(feeds) => Ok(feeds),
         None => Ok(FeedParts::new(Vec::new(alloc))),
@@ -232,20 +210,39 @@ fn feeds_at(alloc: Global, top: &Section) -> Result<FeedParts, Unread>
 #[tactic(auto, unfolding(crate::specs::Plant::frame_of))]
 fn frame_of(alloc: Global, top: &Section) -> Result<Frame, Unread>
     ensures exact { Gives result (frame_of (seen top.now)) }
-    ensures ticks { IfOk result (λ frame. (1 ≤ frame.ticks) × (frame.ticks ≤ 100000)) }
-    ensures window { IfOk result (λ frame. (1 ≤ frame.window) × (frame.window ≤ 64)) }
+    ensures ticks { IfOk result (λ frame. (1 ≤ frame.ticks) × (frame.ticks ≤ most_ticks)) }
+    ensures window { IfOk result (λ frame. (1 ≤ frame.window) × (frame.window ≤ longest_window)) }
     ensures limits { IfOk result (λ frame. AreWideLimits frame.limits) }
     ensures width { IfOk result (λ frame. AreWidths frame.width) }
 {
     top.read(alloc, "format", FormatReader)?;
-    let (ticks, window) = top.read(alloc, "run", RunReader)?;
-    let limits = top.read(alloc, "limits", LimitsReader)?;
+    let (ticks, window) = top.read(alloc, "run", TableOf { keys: RunReader })?;
+    let limits = top.read(alloc, "limits", TableOf { keys: LimitsReader })?;
     let width = widths_at(alloc, top)?;
     Ok(Frame {
         ticks,
         window,
         limits,
         width,
+    })
+}
+
+/// The parts that the keys of the whole text say.
+#[tactic(auto, unfolding(crate::specs::Plant::parts_at))]
+fn parts_at(alloc: Global, top: &Section) -> Result<Parts, Unread>
+    ensures { Gives result (parts_at (seen top.now)) }
+{
+    let frame = frame_of(alloc, top)?;
+    let feeds = feeds_at(alloc, top)?;
+    let units = top.read(alloc, "unit", UNITS)?;
+    top.no_others(alloc, &["format", "run", "limits", "width", "feed", "unit"])?;
+    Ok(Parts {
+        ticks: frame.ticks,
+        window: frame.window,
+        limits: frame.limits,
+        width: frame.width,
+        feeds,
+        units,
     })
 }
 
@@ -258,18 +255,7 @@ fn parts_of(alloc: Global, table: &Table) -> Result<Parts, Unread>
         prefix: String::new(alloc),
         table,
     };
-    let frame = frame_of(alloc, &top)?;
-    let feeds = feeds_at(alloc, &top)?;
-    let units = top.read(alloc, "unit", UnitsReader)?;
-    top.no_others(alloc, &["format", "run", "limits", "width", "feed", "unit"])?;
-    Ok(Parts {
-        ticks: frame.ticks,
-        window: frame.window,
-        limits: frame.limits,
-        width: frame.width,
-        feeds,
-        units,
-    })
+    parts_at(alloc, &top)
 }
 
 /// Reads a plant text: TOML with the keys of a plant and no others, each number, band, name and length in its range.

@@ -9,7 +9,7 @@ ghost use Rattle.flow_file.specs.Spots.{place_of, seen, texts};
 
 use crate::fault::Unread;
 use crate::reader::Reader;
-use crate::spot::Spot;
+use crate::spot::{Refusal, Spot};
 use std::alloc::Global;
 use toml::{Table, Value};
 
@@ -52,7 +52,7 @@ fn first_other<'a>(table: &'a Table, known: &[&str]) -> Option<&'a str>
 }
 
 /// The table at a spot.
-#[tactic(auto, unfolding(crate::specs::Value::section_of))]
+#[tactic(auto, using(crate::proofs::Refusals::refused), unfolding(crate::specs::Value::section_of))]
 pub(crate) fn section_at<'a>(
     alloc: Global,
     spot: Spot,
@@ -61,7 +61,7 @@ pub(crate) fn section_at<'a>(
     ensures { GivesBy seen result (section_of (place_of spot.entry) (view node.now)) }
 {
     let Some(table) = node.as_table() else {
-        return Err(spot.wrong_type(alloc)?);
+        return Err(spot.refused(alloc, Refusal::WrongType));
     };
     let mut prefix = spot.text(alloc)?;
     prefix.push('.')?;
@@ -80,13 +80,14 @@ impl<'a> Section<'a> {
     }
 
     /// The value at a key that is required.
+    #[tactic(auto, using(crate::proofs::Refusals::refused))]
     fn node(&self, alloc: Global, key: &str) -> Result<&'a Value, Unread>
         ensures { GivesBy (λ node. view node.now) result
             (or_fault (get_member key.now (seen self.now).members) (fault.Missing (key_place (seen self.now) key.now))) }
     {
         match lookup(self.table, key) {
             Some(node) => Ok(node),
-            None => Err(self.spot(key).missing(alloc)?),
+            None => Err(self.spot(key).refused(alloc, Refusal::Missing)),
         }
     }
 
@@ -118,12 +119,12 @@ impl<'a> Section<'a> {
     }
 
     /// Refuses the first key, in the order of their bytes, that is not known.
-    #[tactic(auto, unfolding(crate::specs::Value::no_others))]
+    #[tactic(auto, using(crate::proofs::Refusals::refused), unfolding(crate::specs::Value::no_others))]
     pub fn no_others(&self, alloc: Global, known: &[&str]) -> Result<(), Unread>
         ensures { Gives result (no_others (texts known.now) (seen self.now)) }
     {
         match first_other(self.table, known) {
-            Some(key) => Err(self.spot(key).unknown_key(alloc)?),
+            Some(key) => Err(self.spot(key).refused(alloc, Refusal::UnknownKey)),
             None => Ok(()),
         }
     }

@@ -1,7 +1,5 @@
 ghost use Rattle.std.specs.Prelude.{◌≡◌, IfOk, string_bytes};
-ghost use Rattle.flow_file.specs.declared.fault.TextFault.TheVariants as fault;
-ghost use Rattle.flow_file.specs.declared.fault.Unread.TheVariants as unread;
-ghost use Rattle.flow_file.specs.Spots.{place_of};
+ghost use Rattle.flow_file.specs.Spots.{place_of, fault_at, IsRefusal};
 
 use crate::fault::{TextFault, Unread};
 use plant_names::Place;
@@ -14,6 +12,31 @@ pub(crate) enum Spot<'a> {
     Key { prefix: &'a str, key: &'a str },
     /// In the array at a place.
     Item { array: &'a str, index: usize },
+}
+
+/// How what stands at a place does not fit.
+#[derive(Clone, Copy)]
+pub(crate) enum Refusal {
+    Missing,
+    WrongType,
+    UnknownKey,
+    OutOfRange,
+    BadName,
+    TooMany,
+}
+
+/// The refusal of what stands at a place.
+fn fault_at(refusal: Refusal, place: Place) -> TextFault
+    ensures { result ≡ fault_at refusal place }
+{
+    match refusal {
+        Refusal::Missing => TextFault::Missing { place },
+        Refusal::WrongType => TextFault::WrongType { place },
+        Refusal::UnknownKey => TextFault::UnknownKey { place },
+        Refusal::OutOfRange => TextFault::OutOfRange { place },
+        Refusal::BadName => TextFault::BadName { place },
+        Refusal::TooMany => TextFault::TooMany { place },
+    }
 }
 
 impl Spot<'_> {
@@ -33,51 +56,13 @@ impl Spot<'_> {
         Ok(Place::new(self.text(alloc)?.into_bytes()))
     }
 
-    /// The refusal of a key that is missing.
-    pub fn missing(self, alloc: Global) -> Result<Unread, AllocError>
-        ensures { IfOk result (λ end. end ≡ unread.Fault (fault.Missing (place_of self.entry))) }
+    /// Why nothing is read here: the refusal, or `NoMemory` where its place finds no memory.
+    pub fn refused(self, alloc: Global, refusal: Refusal) -> Unread
+        ensures { IsRefusal (fault_at refusal (place_of self.entry)) result }
     {
-        let place = self.place(alloc)?;
-        Ok(Unread::Fault(TextFault::Missing { place }))
-    }
-
-    /// The refusal of a value of another type.
-    pub fn wrong_type(self, alloc: Global) -> Result<Unread, AllocError>
-        ensures { IfOk result (λ end. end ≡ unread.Fault (fault.WrongType (place_of self.entry))) }
-    {
-        let place = self.place(alloc)?;
-        Ok(Unread::Fault(TextFault::WrongType { place }))
-    }
-
-    /// The refusal of a key that is none of its table's.
-    pub fn unknown_key(self, alloc: Global) -> Result<Unread, AllocError>
-        ensures { IfOk result (λ end. end ≡ unread.Fault (fault.UnknownKey (place_of self.entry))) }
-    {
-        let place = self.place(alloc)?;
-        Ok(Unread::Fault(TextFault::UnknownKey { place }))
-    }
-
-    /// The refusal of what is out of its range.
-    pub fn out_of_range(self, alloc: Global) -> Result<Unread, AllocError>
-        ensures { IfOk result (λ end. end ≡ unread.Fault (fault.OutOfRange (place_of self.entry))) }
-    {
-        let place = self.place(alloc)?;
-        Ok(Unread::Fault(TextFault::OutOfRange { place }))
-    }
-
-    /// The refusal of what is not written as a name or a reference.
-    pub fn bad_name(self, alloc: Global) -> Result<Unread, AllocError>
-        ensures { IfOk result (λ end. end ≡ unread.Fault (fault.BadName (place_of self.entry))) }
-    {
-        let place = self.place(alloc)?;
-        Ok(Unread::Fault(TextFault::BadName { place }))
-    }
-
-    /// The refusal of an array that is too long.
-    pub fn too_many(self, alloc: Global) -> Result<Unread, AllocError>
-        ensures { IfOk result (λ end. end ≡ unread.Fault (fault.TooMany (place_of self.entry))) }
-    {
-        let place = self.place(alloc)?;
-        Ok(Unread::Fault(TextFault::TooMany { place }))
+        match self.place(alloc) {
+            Ok(place) => Unread::Fault(fault_at(refusal, place)),
+            Err(_) => Unread::NoMemory,
+        }
     }
 }

@@ -9,8 +9,9 @@ ghost use Rattle.flow_file.specs.Spots.{seen, texts};
 use crate::fault::Unread;
 use crate::kinds::{column_of, controller_of, mixer_of, reactor_of, splitter_of, tank_of};
 use crate::reader::Reader;
-use crate::section::{Section, section_at};
-use crate::spot::Spot;
+use crate::section::Section;
+use crate::spot::{Refusal, Spot};
+use crate::tables::{KeysReader, TableOf};
 use crate::values::{Name, WideBand, text_at};
 use parts::{KindPart, OwnLimits, UnitPart};
 use std::alloc::Global;
@@ -53,12 +54,12 @@ impl Reader for UnitKindReader {
 
     ghost may_be = { λ _ _. Unit {0} };
 
-    #[tactic(auto, unfolding(crate::specs::Units::unit_kind_of))]
+    #[tactic(auto, using(crate::proofs::Refusals::refused), unfolding(crate::specs::Units::unit_kind_of))]
     fn read(self, alloc: Global, spot: Spot, node: &Value) -> Result<UnitKind, Unread> {
         let text = text_at(alloc, spot, node)?;
         match kind_named(text) {
             Some(kind) => Ok(kind),
-            None => Err(spot.out_of_range(alloc)?),
+            None => Err(spot.refused(alloc, Refusal::OutOfRange)),
         }
     }
 }
@@ -132,7 +133,7 @@ fn unit_keys(kind: UnitKind) -> &'static [&'static str]
 #[derive(Clone, Copy)]
 struct OwnLimitsReader;
 
-impl Reader for OwnLimitsReader {
+impl KeysReader for OwnLimitsReader {
     type Item = OwnLimits;
 
     ghost reads = { λ _. own_limits_of };
@@ -140,8 +141,7 @@ impl Reader for OwnLimitsReader {
     ghost may_be = { λ _. AreOwnLimits };
 
     #[tactic(auto, unfolding(crate::specs::Units::own_limits_of))]
-    fn read(self, alloc: Global, spot: Spot, node: &Value) -> Result<OwnLimits, Unread> {
-        let section = section_at(alloc, spot, node)?;
+    fn read_keys(self, alloc: Global, section: &Section) -> Result<OwnLimits, Unread> {
         let flow = section.read_optional(alloc, "flow", WideBand)?;
         let conc = section.read_optional(alloc, "conc", WideBand)?;
         let temp = section.read_optional(alloc, "temp", WideBand)?;
@@ -173,7 +173,13 @@ fn last_limits_of(alloc: Global, kind: UnitKind, section: &Section) -> Result<Ow
     ensures exact { Gives result (last_limits_of kind (seen section.now)) }
     ensures inside { IfOk result AreOwnLimits }
 {
-    let limits = section.read_optional(alloc, "limits", OwnLimitsReader)?;
+    let limits = section.read_optional(
+        alloc,
+        "limits",
+        TableOf {
+            keys: OwnLimitsReader,
+        },
+    )?;
     section.no_others(alloc, unit_keys(kind))?;
     Ok(limits.unwrap_or(NO_LIMITS))
 }
@@ -182,7 +188,7 @@ fn last_limits_of(alloc: Global, kind: UnitKind, section: &Section) -> Result<Ow
 #[derive(Clone, Copy)]
 pub(crate) struct UnitReader;
 
-impl Reader for UnitReader {
+impl KeysReader for UnitReader {
     type Item = UnitPart;
 
     ghost reads = { λ _. unit_of };
@@ -190,12 +196,11 @@ impl Reader for UnitReader {
     ghost may_be = { λ _. IsUnitPart };
 
     #[tactic(auto, unfolding(crate::specs::Units::unit_of))]
-    fn read(self, alloc: Global, spot: Spot, node: &Value) -> Result<UnitPart, Unread> {
-        let section = section_at(alloc, spot, node)?;
+    fn read_keys(self, alloc: Global, section: &Section) -> Result<UnitPart, Unread> {
         let name = section.read(alloc, "name", Name)?;
         let kind = section.read(alloc, "kind", UnitKindReader)?;
-        let part = part_of(alloc, kind, &section)?;
-        let limits = last_limits_of(alloc, kind, &section)?;
+        let part = part_of(alloc, kind, section)?;
+        let limits = last_limits_of(alloc, kind, section)?;
         Ok(UnitPart {
             name,
             kind: part,

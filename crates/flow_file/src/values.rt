@@ -6,13 +6,13 @@ ghost use Rattle.parts.specs.InRange.{IsWide, IsName, IsReference};
 ghost use Rattle.toml.specs.Data.{as_array};
 ghost use Rattle.toml.specs.View.{view};
 ghost use Rattle.flow_file.specs.Read.{Gives, GivesBy};
-ghost use Rattle.flow_file.specs.Value.{number_in, count_in, band_between, pair_of, triple_of, pair_band, band_of};
+ghost use Rattle.flow_file.specs.Value.{is_in, number_in, count_in, band_between, pair_of, triple_of, pair_band, band_of};
 ghost use Rattle.flow_file.specs.Value.{text_of, name_of, reference_of};
 ghost use Rattle.flow_file.specs.Spots.{place_of};
 
 use crate::fault::Unread;
 use crate::reader::Reader;
-use crate::spot::Spot;
+use crate::spot::{Refusal, Spot};
 use plant_names::{Text, is_name, is_reference};
 use quant::Band;
 use std::alloc::Global;
@@ -28,20 +28,29 @@ pub(crate) struct NumberIn {
     pub hi: i64,
 }
 
+impl NumberIn {
+    /// Whether a number lies in the range.
+    pub fn holds(self, number: i64) -> bool
+        ensures { result ≡ is_in (record { lo = self.lo; hi = self.hi }) number }
+    {
+        self.lo <= number && number <= self.hi
+    }
+}
+
 impl Reader for NumberIn {
     type Item = i64;
 
-    ghost reads = { λ range. number_in range.lo range.hi };
+    ghost reads = { λ range. number_in (record { lo = range.lo; hi = range.hi }) };
 
     ghost may_be = { λ range. Holds (record { lo = range.lo; hi = range.hi }) };
 
-    #[tactic(auto, unfolding(crate::specs::Value::number_in))]
+    #[tactic(auto, using(crate::proofs::Refusals::refused), unfolding(crate::specs::Value::number_in))]
     fn read(self, alloc: Global, spot: Spot, node: &Value) -> Result<i64, Unread> {
         let Some(number) = node.as_integer() else {
-            return Err(spot.wrong_type(alloc)?);
+            return Err(spot.refused(alloc, Refusal::WrongType));
         };
-        if number < self.lo || self.hi < number {
-            return Err(spot.out_of_range(alloc)?);
+        if !self.holds(number) {
+            return Err(spot.refused(alloc, Refusal::OutOfRange));
         }
         Ok(number)
     }
@@ -73,7 +82,7 @@ impl Reader for CountIn {
 }
 
 /// The band from `lo` to `hi`, where both are at most `WIDEST` from 0 and in this order.
-#[tactic(auto, unfolding(crate::specs::Value::band_between))]
+#[tactic(auto, using(crate::proofs::Refusals::refused), unfolding(crate::specs::Value::band_between))]
 pub(crate) fn band_between(alloc: Global, spot: Spot, lo: i64, hi: i64) -> Result<Band, Unread>
     ensures exact { Gives result (band_between (place_of spot.entry) lo hi) }
     ensures inside { IfOk result IsWide }
@@ -81,7 +90,7 @@ pub(crate) fn band_between(alloc: Global, spot: Spot, lo: i64, hi: i64) -> Resul
     if -WIDEST <= lo && lo <= hi && hi <= WIDEST {
         Ok(Band { lo, hi })
     } else {
-        Err(spot.out_of_range(alloc)?)
+        Err(spot.refused(alloc, Refusal::OutOfRange))
     }
 }
 
@@ -111,13 +120,13 @@ pub(crate) fn triple_of(node: &Value) -> Option<(i64, (i64, i64))>
 }
 
 /// A band by its two ends in an array.
-#[tactic(auto, using(crate::proofs::Lists::one_refusal), unfolding(crate::specs::Value::pair_band))]
+#[tactic(auto, using(crate::proofs::Refusals::refused, crate::proofs::Lists::one_refusal), unfolding(crate::specs::Value::pair_band))]
 fn pair_band(alloc: Global, spot: Spot, node: &Value) -> Result<Band, Unread>
     ensures exact { Gives result (pair_band (place_of spot.entry) (view node.now)) }
     ensures inside { IfOk result IsWide }
 {
     let Some((lo, hi)) = pair_of(node) else {
-        return Err(spot.wrong_type(alloc)?);
+        return Err(spot.refused(alloc, Refusal::WrongType));
     };
     band_between(alloc, spot, lo, hi)
 }
@@ -143,13 +152,13 @@ impl Reader for WideBand {
 }
 
 /// A text.
-#[tactic(auto, unfolding(crate::specs::Value::text_of))]
+#[tactic(auto, using(crate::proofs::Refusals::refused), unfolding(crate::specs::Value::text_of))]
 pub(crate) fn text_at<'a>(alloc: Global, spot: Spot, node: &'a Value) -> Result<&'a str, Unread>
     ensures { GivesBy (λ text. text.now) result (text_of (place_of spot.entry) (view node.now)) }
 {
     match node.as_str() {
         Some(text) => Ok(text),
-        None => Err(spot.wrong_type(alloc)?),
+        None => Err(spot.refused(alloc, Refusal::WrongType)),
     }
 }
 
@@ -164,11 +173,11 @@ impl Reader for Name {
 
     ghost may_be = { λ _. IsName };
 
-    #[tactic(auto, unfolding(crate::specs::Value::name_of))]
+    #[tactic(auto, using(crate::proofs::Refusals::refused), unfolding(crate::specs::Value::name_of))]
     fn read(self, alloc: Global, spot: Spot, node: &Value) -> Result<Text, Unread> {
         let text = text_at(alloc, spot, node)?;
         if !is_name(text.as_bytes()) {
-            return Err(spot.bad_name(alloc)?);
+            return Err(spot.refused(alloc, Refusal::BadName));
         }
         Ok(Text::copied(alloc, text.as_bytes())?)
     }
@@ -185,11 +194,11 @@ impl Reader for Reference {
 
     ghost may_be = { λ _. IsReference };
 
-    #[tactic(auto, unfolding(crate::specs::Value::reference_of))]
+    #[tactic(auto, using(crate::proofs::Refusals::refused), unfolding(crate::specs::Value::reference_of))]
     fn read(self, alloc: Global, spot: Spot, node: &Value) -> Result<Text, Unread> {
         let text = text_at(alloc, spot, node)?;
         if !is_reference(text) {
-            return Err(spot.bad_name(alloc)?);
+            return Err(spot.refused(alloc, Refusal::BadName));
         }
         Ok(Text::copied(alloc, text.as_bytes())?)
     }

@@ -1,48 +1,43 @@
 use flow_file::{TextFault, Unread, read_plant};
 use parts::{FeedBand, FeedKind, KindPart, Parts, Piece};
+use plant_texts::{MIXER, SPLITTER, TANK, Unit, changed, plant_with};
 use quant::Band;
 use std::alloc::Global;
-use std::test::*;
+use std::process::Abort;
+use std::test::Fail;
 
-const PLANT: &str = r#"format = 1
-[run]
-ticks = 100
-window = 16
-[limits]
-flow = [0, 1000000]
-conc = [0, 1000000]
-temp = [0, 1000000]
-volume = [1, 1000000]
-signal = [-2000000, 2000000]
-[width]
-conc = 2000000000000
-[[feed]]
-name = "f"
-kind = "material"
-flow = [[0, 10, 12], [50, 20, 20]]
-conc = 100
-temp = [300000, 300001]
-[[feed]]
-name = "v"
-kind = "signal"
-value = 1000000
-[[unit]]
-name = "m1"
-kind = "mixer"
-in = ["f", "s1.b"]
-[[unit]]
-name = "t1"
-kind = "tank"
-in = "m1.out"
-valve = "v"
-k = 10000
-volume = 1000
-flow = 10
-conc = 0
-temp = 300000
-[[unit]]
-name = "r1"
-kind = "reactor"
+/// What changes in the texts of the two feeds.
+static CHANGES: [(&str, &str); 4] = [
+    ("ticks = 3\nwindow = 3", "ticks = 100\nwindow = 16"),
+    (
+        "signal = [0, 2000000]\n",
+        "signal = [-2000000, 2000000]\n[width]\nconc = 2000000000000\n",
+    ),
+    ("flow = [10, 12]", "flow = [[0, 10, 12], [50, 20, 20]]"),
+    ("temp = 300000", "temp = [300000, 300001]"),
+];
+
+static UNITS: [Unit; 6] = [
+    ("m1", MIXER, &[("\"f\"]", "\"s1.b\"]")]),
+    ("t1", TANK, &[("\"f\"", "\"m1.out\"")]),
+    ("r1", REACTOR, &[]),
+    ("c1", COLUMN, &[]),
+    ("p1", CONTROLLER, &[]),
+    (
+        "s1",
+        SPLITTER,
+        &[
+            ("\"f\"", "\"c1.bottom\""),
+            (
+                "share = 500000\n",
+                "share = 500000\n[unit.limits]\nflow = [0, 50]\n",
+            ),
+        ],
+    ),
+];
+
+/// A reactor with numbers at the ends of their ranges. That its jacket names a material stream is not judged here.
+const REACTOR: &str = r#"kind = "reactor"
 in = "t1.out"
 valve = "v"
 jacket = "f"
@@ -54,9 +49,9 @@ volume = [1000, 1001]
 flow = 10
 conc = 0
 temp = 300000
-[[unit]]
-name = "c1"
-kind = "column"
+"#;
+
+const COLUMN: &str = r#"kind = "column"
 liquid = "r1.out"
 vapour = "f"
 stages = 64
@@ -67,9 +62,9 @@ liquid_flow = 1
 liquid_temp = 2
 vapour_flow = 3
 vapour_temp = 4
-[[unit]]
-name = "p1"
-kind = "controller"
+"#;
+
+const CONTROLLER: &str = r#"kind = "controller"
 set = "v"
 measured = "t1.level"
 kp = 1000000000
@@ -78,13 +73,6 @@ bias = -1000000000000
 integral_limits = [-9, 9]
 integral = 0
 out = 1
-[[unit]]
-name = "s1"
-kind = "splitter"
-in = "c1.bottom"
-share = 500000
-[unit.limits]
-flow = [0, 50]
 "#;
 
 /// Changes of the text, one phrase for another, under which it is still read.
@@ -95,86 +83,92 @@ static TAKEN: [(&str, &str); 4] = [
     ("stages = 64", "stages = 1 # one"),
 ];
 
-/// Changes under which it is refused: the phrase, what stands in its place, and the refusal with its place.
-static REFUSED: [(&str, &str, &str, &str); 24] = [
-    ("format = 1\n", "format = \n", "no TOML", ""),
-    ("ticks = 100\n", "ticks = 1\nticks = 1\n", "no TOML", ""),
-    ("format = 1\n", "format = 2\n", "format", ""),
-    ("format = 1\n", "format = \"1\"\n", "type", "format"),
-    ("window = 16\n", "", "missing", "run.window"),
-    ("window = 16", "window = 65", "range", "run.window"),
-    ("ticks = 100\n", "ticks = 0\n", "range", "run.ticks"),
+/// The refusals, each with changes that bring it: the phrase, what stands in its place, and the place that is named.
+static REFUSED: [(&str, &[(&str, &str, &str)]); 8] = [
     (
-        "volume = [1,",
-        "volume = [1000001,",
-        "range",
-        "limits.volume",
+        "no TOML",
+        &[
+            ("format = 1\n", "format = \n", ""),
+            ("ticks = 100\n", "ticks = 1\nticks = 1\n", ""),
+        ],
     ),
-    ("[width]\n", "[width]\nflow = -1\n", "range", "width.flow"),
+    ("format", &[("format = 1\n", "format = 2\n", "")]),
     (
-        "[width]\n",
-        "[width]\nvolume = 1\n",
-        "unknown",
-        "width.volume",
-    ),
-    (
-        "format = 1\n",
-        "format = 1\nz = 1\nmore = 1\n",
-        "unknown",
-        "more",
-    ),
-    ("[50, 20, 20]", "[50, 20]", "type", "feed[0].flow[1]"),
-    ("[50, 20, 20]", "[-1, 20, 20]", "range", "feed[0].flow[1]"),
-    ("\"signal\"", "\"signals\"", "range", "feed[1].kind"),
-    ("value = 1000000", "value = 1.0", "type", "feed[1].value"),
-    ("[\"f\", \"s1.b\"]", "[\"f\"]", "range", "unit[0].in"),
-    (
-        "[\"f\", \"s1.b\"]",
-        "[\"f\", \"s1.\"]",
-        "name",
-        "unit[0].in[1]",
-    ),
-    ("\"t1\"", "\"Tank\"", "name", "unit[1].name"),
-    ("k = 10000\n", "", "missing", "unit[1].k"),
-    (
-        "[320000, 1000000]",
-        "[320000, 1000001]",
-        "range",
-        "unit[2].rate[1]",
-    ),
-    (
-        "heat = -1000000000",
-        "heat = -1000000001",
-        "range",
-        "unit[2].heat",
-    ),
-    ("stages = 64", "stages = 65", "range", "unit[3].stages"),
-    (
-        "flow = [0, 50]\n",
-        "flow = [0]\n",
         "type",
-        "unit[5].limits.flow",
+        &[
+            ("format = 1\n", "format = \"1\"\n", "format"),
+            ("[50, 20, 20]", "[50, 20]", "feed[0].flow[1]"),
+            ("value = 1000000", "value = 1.0", "feed[1].value"),
+            ("flow = [0, 50]\n", "flow = [0]\n", "unit[5].limits.flow"),
+        ],
     ),
     (
-        "in = [\"f\", \"s1.b\"]",
-        "in = [\"f\", \"f\", \"f\", \"f\", \"f\", \"f\", \"f\", \"f\", \"f\"]",
+        "missing",
+        &[
+            ("window = 16\n", "", "run.window"),
+            ("k = 10000\n", "", "unit[1].k"),
+        ],
+    ),
+    (
+        "range",
+        &[
+            ("window = 16", "window = 65", "run.window"),
+            ("ticks = 100\n", "ticks = 0\n", "run.ticks"),
+            ("volume = [1,", "volume = [1000001,", "limits.volume"),
+            ("[width]\n", "[width]\nflow = -1\n", "width.flow"),
+            ("[50, 20, 20]", "[-1, 20, 20]", "feed[0].flow[1]"),
+            ("\"signal\"", "\"signals\"", "feed[1].kind"),
+            ("[\"f\", \"s1.b\"]", "[\"f\"]", "unit[0].in"),
+            ("[320000, 1000000]", "[320000, 1000001]", "unit[2].rate[1]"),
+            ("heat = -1000000000", "heat = -1000000001", "unit[2].heat"),
+            ("stages = 64", "stages = 65", "unit[3].stages"),
+        ],
+    ),
+    (
+        "unknown",
+        &[
+            ("[width]\n", "[width]\nvolume = 1\n", "width.volume"),
+            ("format = 1\n", "format = 1\nz = 1\nmore = 1\n", "more"),
+        ],
+    ),
+    (
+        "name",
+        &[
+            ("[\"f\", \"s1.b\"]", "[\"f\", \"s1.\"]", "unit[0].in[1]"),
+            ("\"t1\"", "\"Tank\"", "unit[1].name"),
+        ],
+    ),
+    (
         "many",
-        "unit[0].in",
+        &[(
+            "in = [\"f\", \"s1.b\"]",
+            "in = [\"f\", \"f\", \"f\", \"f\", \"f\", \"f\", \"f\", \"f\", \"f\"]",
+            "unit[0].in",
+        )],
     ),
 ];
 
-/// What is read of the text with its first `old` changed to `new`.
-fn read_with(alloc: Global, old: &str, new: &str) -> Result<Result<Parts, Unread>, Fail> {
-    let (before, after) = PLANT
-        .split_once(old)
-        .ok_or("the text does not have the phrase")?;
-    let text = format!(in alloc; "{before}{new}{after}")?;
-    Ok(read_plant(alloc, text.as_bytes()))
+/// A plant with a unit of each kind, and numbers at the ends of their ranges.
+fn plant(alloc: Global) -> Result<String, Fail> {
+    plant_with(alloc, &UNITS, &CHANGES)
+}
+
+/// The text with its first `old` changed to `new`.
+fn text_with(alloc: Global, old: &str, new: &str) -> Result<String, Fail> {
+    changed(alloc, &plant(alloc)?, &[(old, new)])
+}
+
+/// The parts of the text.
+fn parts_of(alloc: Global) -> Result<Parts, Fail> {
+    match read_plant(alloc, plant(alloc)?.as_bytes()) {
+        Ok(parts) => Ok(parts),
+        Err(_) => Err("the text is no plant".into()),
+    }
 }
 
 /// Whether it is the refusal of this name at this place.
-fn is_refusal(read: &Result<Parts, Unread>, refusal: &str, place: &str) -> bool {
-    let Err(Unread::Fault(fault)) = read else {
+fn is_refusal(unread: &Unread, refusal: &str, place: &str) -> bool {
+    let Unread::Fault(fault) = unread else {
         return false;
     };
     let (found, at) = match fault {
@@ -190,16 +184,28 @@ fn is_refusal(read: &Result<Parts, Unread>, refusal: &str, place: &str) -> bool 
     found == refusal && at == place.as_bytes()
 }
 
-#[test]
-fn reads_the_feeds(rt: HostRuntime) -> Result<(), Fail> {
-    let parts = read_plant(rt.alloc(), PLANT.as_bytes())
-        .ok()
-        .ok_or("the text is a plant")?;
+/// Whether a text is refused for this at this place.
+fn is_refused(alloc: Global, text: &[u8], refusal: &str, place: &str) -> bool {
+    match read_plant(alloc, text) {
+        Ok(_) => false,
+        Err(unread) => is_refusal(&unread, refusal, place),
+    }
+}
+
+/// Whether a text is read.
+fn is_taken(alloc: Global, text: &[u8]) -> bool {
+    read_plant(alloc, text).is_ok()
+}
+
+fn has_numbers<R: Abort>(rt: &R, parts: &Parts) {
     assert_eq!(rt; parts.ticks, 100);
     assert_eq!(rt; parts.window, 16);
     assert_eq!(rt; parts.limits.signal.lo, -2_000_000);
     assert_eq!(rt; parts.width.flow, None);
     assert_eq!(rt; parts.width.conc, Some(2_000_000_000_000));
+}
+
+fn has_feeds<R: Abort>(rt: &R, parts: &Parts) -> Result<(), Fail> {
     let [material, signal] = parts.feeds.as_slice() else {
         return Err("the plant has two feeds".into());
     };
@@ -224,11 +230,7 @@ fn reads_the_feeds(rt: HostRuntime) -> Result<(), Fail> {
     Ok(())
 }
 
-#[test]
-fn reads_the_units(rt: HostRuntime) -> Result<(), Fail> {
-    let parts = read_plant(rt.alloc(), PLANT.as_bytes())
-        .ok()
-        .ok_or("the text is a plant")?;
+fn has_units<R: Abort>(rt: &R, parts: &Parts) -> Result<(), Fail> {
     let [mixer, tank, reactor, column, controller, splitter] = parts.units.as_slice() else {
         return Err("the plant has six units".into());
     };
@@ -236,9 +238,10 @@ fn reads_the_units(rt: HostRuntime) -> Result<(), Fail> {
     assert!(rt;
         matches!(&tank.kind, KindPart::Tank { k: 10_000, volume, .. } if volume.lo == 1_000)
     );
-    assert!(rt;
-        matches!(&reactor.kind, KindPart::Reactor { heat: -1_000_000_000, ua: 7, rate, .. } if rate.as_slice().len() == 2)
-    );
+    let KindPart::Reactor { heat, ua, rate, .. } = &reactor.kind else {
+        return Err("the third unit is a reactor".into());
+    };
+    assert_eq!(rt; (*heat, *ua, rate.as_slice().len()), (-1_000_000_000, 7, 2));
     assert!(rt;
         matches!(&column.kind, KindPart::Column { stages: 64, x, vapour_temp, .. } if x.hi == 5 && vapour_temp.lo == 4)
     );
@@ -253,16 +256,33 @@ fn reads_the_units(rt: HostRuntime) -> Result<(), Fail> {
 }
 
 #[test]
-fn takes_and_refuses(rt: HostRuntime) -> Result<(), Fail> {
+fn reads_the_plant(rt: HostRuntime) -> Result<(), Fail> {
+    let parts = parts_of(rt.alloc())?;
+    has_numbers(&rt, &parts);
+    has_feeds(&rt, &parts)?;
+    has_units(&rt, &parts)
+}
+
+#[test]
+fn takes_texts(rt: HostRuntime) -> Result<(), Fail> {
     for (old, new) in &TAKEN {
-        let read = read_with(rt.alloc(), old, new)?;
-        assert!(rt; read.is_ok(), "with {new}");
+        let text = text_with(rt.alloc(), old, new)?;
+        assert!(rt; is_taken(rt.alloc(), text.as_bytes()), "with {new}");
     }
-    for (old, new, refusal, place) in &REFUSED {
-        let read = read_with(rt.alloc(), old, new)?;
-        assert!(rt; is_refusal(&read, refusal, place), "with {new}");
+    Ok(())
+}
+
+#[test]
+fn refuses_texts(rt: HostRuntime) -> Result<(), Fail> {
+    for (refusal, rows) in &REFUSED {
+        for (old, new, place) in rows.iter() {
+            let text = text_with(rt.alloc(), old, new)?;
+            assert!(rt;
+                is_refused(rt.alloc(), text.as_bytes(), refusal, place),
+                "with {new}"
+            );
+        }
     }
-    let read = read_plant(rt.alloc(), b"# \xff\n");
-    assert!(rt; is_refusal(&read, "no TOML", ""));
+    assert!(rt; is_refused(rt.alloc(), b"# \xff\n", "no TOML", ""));
     Ok(())
 }

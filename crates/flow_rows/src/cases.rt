@@ -1,7 +1,8 @@
-//! Changes of the worked text, and what the program says of each.
+//! Plants that are run or refused, and the line of each refusal.
 
-use crate::runs::{changed, run_text};
-use flow_edge::Status;
+use crate::runs::{OPEN, call};
+use crate::sources::{Plant, bytes_of};
+use flow_edge::{MemSource, Status};
 use std::alloc::Global;
 use std::process::Abort;
 use std::test::Fail;
@@ -11,20 +12,22 @@ mod bands;
 mod kinds;
 mod names;
 mod ranges;
+mod sizes;
 mod texts;
 
-/// A text that is the worked one with phrases changed, and the end of its error line where it is refused.
+/// A plant, and the end of its error line where it is refused.
 #[derive(Clone, Copy)]
 struct Case {
     name: &'static str,
-    changes: &'static [(&'static str, &'static str)],
+    plant: Plant,
     refused: Option<&'static str>,
 }
 
 /// Runs a case, and compares the status and the error line.
 fn try_case<R: Abort + Threads + Sync>(rt: &R, alloc: Global, case: &Case) -> Result<(), Fail> {
     let name = case.name;
-    let answer = run_text(rt, alloc, changed(alloc, case.changes)?, 4096)?;
+    let mut plant = MemSource::new(bytes_of(alloc, case.plant)?, Vec::new(alloc));
+    let answer = call(rt, alloc, &["run"], &mut plant, OPEN)?;
     match case.refused {
         None => {
             assert_eq!(rt; answer.status, Status::Done, "at {name}");

@@ -6,10 +6,8 @@ mod calls;
 #[cfg(test)]
 mod cases;
 #[cfg(test)]
-mod mixed;
-#[cfg(test)]
 mod runs;
 #[cfg(test)]
-mod sizes;
+mod sources;
 #[cfg(test)]
-mod units;
+mod written;

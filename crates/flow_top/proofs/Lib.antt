@@ -7,4 +7,3 @@ pub mod Causes
 pub mod PlantRows
 pub mod Channels
 pub mod RunRows
-pub mod StreamCount

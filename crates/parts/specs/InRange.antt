@@ -18,19 +18,59 @@ use Rattle.parts.specs.declared.parts.Widths.{Widths}
 use Rattle.plant_names.specs.Name.{is_name, is_reference}
 use Rattle.parts.specs.Parts.{FileParts}
 
--- the whole numbers from lo to hi, both not negative; and the numbers from 0 to one million
+-- the whole numbers from lo to hi, both not negative; and a part of a whole, in ppm
 abbrev pub from_to : ℕ → ℕ → Interval
 from_to lo hi = record { lo = pos lo; hi = pos hi }
 
 abbrev pub ppm : Interval
 ppm = record { lo = pos 0; hi = million }
 
--- the numbers that a gain may be, and the greatest tick of a piece
+-- what a gain may be, in ppm; what a stage of a column may hold, in mL; what its slope may be, in ppm; and a width that
+-- may be asked for
 abbrev pub gains : Interval
 gains = around 1000000000
 
+abbrev pub holdups : Interval
+holdups = from_to 1 1000000000000
+
+abbrev pub slopes : Interval
+slopes = from_to 0 1000000000
+
+abbrev pub widths : Interval
+widths = from_to 0 2000000000000
+
+-- the most ticks of a run and of a window, the most feeds and units, and the most pieces of a feed's band
+abbrev pub most_ticks : ℕ
+most_ticks = 100000
+
+abbrev pub longest_window : ℕ
+longest_window = 64
+
+abbrev pub most_feeds : ℕ
+most_feeds = 256
+
+abbrev pub most_units : ℕ
+most_units = 256
+
+abbrev pub most_pieces : ℕ
+most_pieces = 1000
+
+-- the greatest tick at which a piece begins
 abbrev pub last_piece : ℕ
 last_piece = 1000000000
+
+-- the most points of a rate table, the most stages of a column, and the fewest and the most inputs of a mixer
+abbrev pub most_rate_points : ℕ
+most_rate_points = 64
+
+abbrev pub most_stages : ℕ
+most_stages = 64
+
+abbrev pub fewest_inputs : ℕ
+fewest_inputs = 2
+
+abbrev pub most_inputs : ℕ
+most_inputs = 8
 
 -- a band of wide numbers
 abbrev pub IsWide : Interval → Type 0
@@ -46,7 +86,7 @@ abbrev pub IsPiece : Piece → Type 0
 IsPiece piece = (piece.tick ≤ last_piece) × IsWide piece.band
 
 abbrev pub ArePieces : List Piece → Type 0
-ArePieces pieces = (1 ≤ length pieces) × (length pieces ≤ 1000) × AllByRecursion IsPiece pieces
+ArePieces pieces = (1 ≤ length pieces) × (length pieces ≤ most_pieces) × AllByRecursion IsPiece pieces
 
 abbrev pub IsFeedBand : FeedBand → Type 0
 IsFeedBand (feed_band.Constant band) = IsWide band
@@ -65,7 +105,7 @@ abbrev pub IsRatePoint : ℤ × ℤ → Type 0
 IsRatePoint point = Holds wide point.0 × Holds ppm point.1
 
 abbrev pub AreRatePoints : List (ℤ × ℤ) → Type 0
-AreRatePoints points = (1 ≤ length points) × (length points ≤ 64) × AllByRecursion IsRatePoint points
+AreRatePoints points = (1 ≤ length points) × (length points ≤ most_rate_points) × AllByRecursion IsRatePoint points
 
 -- the opening bands of what a tank or a reactor holds
 abbrev pub AreContents : Interval → Interval → Interval → Interval → Type 0
@@ -73,7 +113,7 @@ AreContents volume flow conc temp = IsWide volume × IsWide flow × IsWide conc 
 
 -- what a mixer reads
 abbrev pub AreInputs : List (List ℕ) → Type 0
-AreInputs inputs = (2 ≤ length inputs) × (length inputs ≤ 8) × AllByRecursion IsReference inputs
+AreInputs inputs = (fewest_inputs ≤ length inputs) × (length inputs ≤ most_inputs) × AllByRecursion IsReference inputs
 
 -- what a column starts from
 abbrev pub AreColumnBands : Interval → Interval → Interval → Interval → Interval → Type 0
@@ -87,8 +127,8 @@ IsKindPart (kind.Reactor input valve jacket k rate heat ua volume flow conc temp
     IsReference input × IsReference valve × IsReference jacket × Holds ppm k × AreRatePoints rate × Holds gains heat
     × Holds ppm ua × AreContents volume flow conc temp
 IsKindPart (kind.Column liquid vapour stages holdup slope x liquid_flow liquid_temp vapour_flow vapour_temp) =
-    IsReference liquid × IsReference vapour × (1 ≤ stages) × (stages ≤ 64) × Holds (from_to 1 1000000000000) holdup
-    × Holds (from_to 0 1000000000) slope × AreColumnBands x liquid_flow liquid_temp vapour_flow vapour_temp
+    IsReference liquid × IsReference vapour × (1 ≤ stages) × (stages ≤ most_stages) × Holds holdups holdup
+    × Holds slopes slope × AreColumnBands x liquid_flow liquid_temp vapour_flow vapour_temp
 IsKindPart (kind.Controller set measured kp ki bias integral_limits integral out) =
     IsReference set × IsReference measured × Holds gains kp × Holds gains ki × Holds wide bias × IsWide integral_limits
     × IsWide integral × IsWide out
@@ -114,26 +154,22 @@ pub record AreWideLimits (limits : Limits) : Type 0 where
   pub volume : IsWide limits.volume
   pub signal : IsWide limits.signal
 
--- a width that may be asked for
-abbrev pub widths : Interval
-widths = from_to 0 2000000000000
-
 pub record AreWidths (width : Widths) : Type 0 where
   pub flow : IfSome width.flow (Holds widths)
   pub conc : IfSome width.conc (Holds widths)
   pub temp : IfSome width.temp (Holds widths)
   pub signal : IfSome width.signal (Holds widths)
 
--- the feeds and the units: at most 256 of each, and a unit at least
+-- the feeds and the units, of which there is one at least
 abbrev pub AreFeeds : List FeedPart → Type 0
-AreFeeds feeds = (length feeds ≤ 256) × AllByRecursion IsFeedPart feeds
+AreFeeds feeds = (length feeds ≤ most_feeds) × AllByRecursion IsFeedPart feeds
 
 abbrev pub AreUnits : List UnitPart → Type 0
-AreUnits units = (1 ≤ length units) × (length units ≤ 256) × AllByRecursion IsUnitPart units
+AreUnits units = (1 ≤ length units) × (length units ≤ most_units) × AllByRecursion IsUnitPart units
 
 pub record AreInRange (parts : FileParts) : Type 0 where
-  pub ticks : (1 ≤ parts.ticks) × (parts.ticks ≤ 100000)
-  pub window : (1 ≤ parts.window) × (parts.window ≤ 64)
+  pub ticks : (1 ≤ parts.ticks) × (parts.ticks ≤ most_ticks)
+  pub window : (1 ≤ parts.window) × (parts.window ≤ longest_window)
   pub limits : AreWideLimits parts.limits
   pub width : AreWidths parts.width
   pub feeds : AreFeeds parts.feeds

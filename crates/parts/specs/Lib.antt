@@ -1,3 +1,4 @@
 pub mod Parts
 pub mod InRange
 pub mod Given
+pub mod InForce

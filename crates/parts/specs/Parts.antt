@@ -12,3 +12,7 @@ pub record FileParts : Type 0 where
   pub width : Widths
   pub feeds : List FeedPart
   pub units : List UnitPart
+
+abbrev pub file_parts : ℕ → ℕ → Limits → Widths → List FeedPart → List UnitPart → FileParts
+file_parts ticks window limits width feeds units =
+    record { ticks = ticks; window = window; limits = limits; width = width; feeds = feeds; units = units }

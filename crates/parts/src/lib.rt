@@ -2,11 +2,13 @@
 #![tactic(auto)]
 
 mod feeds;
+mod laws;
 mod lists;
 mod parts;
 mod units;
 
 pub use feeds::{FeedBand, FeedKind, FeedPart, Piece};
-pub use lists::{FeedParts, Pieces, RatePoints, Texts, UnitParts};
+pub use laws::one_piece_is_in_force;
+pub use lists::{FeedParts, Listed, Pieces, RatePoints, Texts, UnitParts};
 pub use parts::{Parts, Widths};
 pub use units::{KindPart, OwnLimits, UnitPart};

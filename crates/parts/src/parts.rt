@@ -27,28 +27,14 @@ pub struct Parts {
 }
 
 impl Model for Parts {
-    ghost use Rattle.parts.specs.Parts.{FileParts};
+    ghost use Rattle.parts.specs.Parts.{FileParts, file_parts};
     ghost use Rattle.parts.specs.InRange.{AreInRange};
 
     ghost Value = { FileParts };
 
-    ghost view = { λ p. record {
-      ticks = p.ticks;
-      window = p.window;
-      limits = p.limits;
-      width = p.width;
-      feeds = p.feeds;
-      units = p.units;
-    } };
+    ghost view = { λ p. file_parts p.ticks p.window p.limits p.width p.feeds p.units };
 
-    ghost invariant = { λ p. AreInRange (record {
-      ticks = p.ticks;
-      window = p.window;
-      limits = p.limits;
-      width = p.width;
-      feeds = p.feeds;
-      units = p.units;
-    }) };
+    ghost invariant = { λ p. AreInRange (file_parts p.ticks p.window p.limits p.width p.feeds p.units) };
 }
 
 impl Parts {

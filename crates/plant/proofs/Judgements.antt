@@ -21,7 +21,8 @@ IsAbove ranks u = most_rank < slice_index ranks u
 above-or : (ranks : List ℕ) (u : ℕ) → IsAbove ranks u ⊎ (¬ IsAbove ranks u)
 above-or ranks u = elim (cases_lt most_rank (slice_index ranks u)) [ inl h ↦ inl h | inr h ↦ inr (λ k. omega arith) ]
 
-none-above : (ranks : List ℕ) → ((u : ℕ) → u < length ranks → ¬ IsAbove ranks u) → (u : ℕ) → slice_index ranks u ≤ most_rank
+none-above : (ranks : List ℕ) → ((u : ℕ) → u < length ranks → ¬ IsAbove ranks u) → (u : ℕ) →
+    slice_index ranks u ≤ most_rank
 none-above ranks none u = elim (cases_lt u (length ranks)) [
   | inl l ↦ elim (cases_lt most_rank (slice_index ranks u)) [ inl h ↦ absurd (none u l h) | inr h ↦ h ]
   | inr l ↦ omega (arith, get_or_past ranks u 0 l)
@@ -39,15 +40,18 @@ first-above ranks u one = record {
 
 -- on parts that pass the checks and have ranks
 of-ranks : (parts : FileParts) → checked parts ≡ Ok tt → AreRanked parts → (verdict : Checked) × IsVerdict parts verdict
-of-ranks parts passes ranked = elim (none_or_first (IsAbove (ranks_of parts)) (above-or (ranks_of parts)) (length (ranks_of parts))) [
-  | inl none ↦ (Ok tt, stands parts (ranks_of parts) passes ranked refl (none-above (ranks_of parts) none))
-  | inr one ↦ (
-    Err (fault.TooDeep (unit_name parts one.0)),
-    deep parts one.0 (ranks_of parts) (unit_name parts one.0) passes ranked refl (first-above (ranks_of parts) one.0 one.1) refl,
-  )
-]
+of-ranks parts passes ranked =
+    elim (none_or_first (IsAbove (ranks_of parts)) (above-or (ranks_of parts)) (length (ranks_of parts))) [
+      | inl none ↦ (Ok tt, stands parts (ranks_of parts) passes ranked refl (none-above (ranks_of parts) none))
+      | inr one ↦ (
+        Err (fault.TooDeep (unit_name parts one.0)),
+        deep parts one.0 (ranks_of parts) (unit_name parts one.0) passes ranked refl
+            (first-above (ranks_of parts) one.0 one.1) refl,
+      )
+    ]
 
-of-checks : (parts : FileParts) (answer : Checked) → checked parts ≡ answer → (verdict : Checked) × IsVerdict parts verdict
+of-checks : (parts : FileParts) (answer : Checked) → checked parts ≡ answer →
+    (verdict : Checked) × IsVerdict parts verdict
 of-checks parts (Err refusal) e = (Err refusal, refused ℕ (unbuilt.Fault refusal) parts e)
 of-checks parts (Ok tt) e = elim (ranks-or-first_loop (links_of parts)) [
   | inl ranked ↦ of-ranks parts e ranked

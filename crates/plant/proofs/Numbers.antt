@@ -1,5 +1,7 @@
 -- Streams by their numbers: the feeds, and then the outputs of each unit in turn.
-use Rattle.std.proofs.Common.{◌≡◌, ℕ, ◌<◌, Bool, true, false, Option, Some, arith, suc, ◌+◌, List, [], ◌∷◌, length, refl, sym, unwrap_or, map, slice_index_or, None, Ok, ap, ◌++◌, ◌∙◌, get_or-append-add, append_assoc, zero}
+use Rattle.std.proofs.Common.{◌≡◌, ℕ, ◌<◌, Bool, true, false, Option, Some, arith, suc, ◌+◌, List, [], ◌∷◌, length}
+use Rattle.std.proofs.Common.{refl, sym, unwrap_or, map, slice_index_or, None, Ok, ap, ◌++◌, ◌∙◌, get_or-append-add}
+use Rattle.std.proofs.Common.{append_assoc, zero}
 use Rattle.std.specs.Prelude.{if◌then◌else◌, bytes_eq}
 use Rattle.std.specs.List.{AllByRecursion}
 use Rattle.std.proofs.lemmas.List.{map-append, length-map, length-append}
@@ -7,14 +9,17 @@ use Rattle.parts.specs.declared.feeds.FeedPart.{FeedPart}
 use Rattle.parts.specs.Parts.{FileParts}
 use Rattle.parts.specs.declared.units.UnitPart.{UnitPart}
 use Rattle.plant_streams.specs.declared.streams.Stream.{Stream}
-use Rattle.plant_streams.specs.Streams.{number_from, Reference, number_of, gives_signal, feed_streams, Port, port_streams, unit_streams, streams_of, ports_of}
+use Rattle.plant_streams.specs.Streams.{number_from, Reference, number_of, gives_signal, feed_streams}
+use Rattle.plant_streams.specs.Streams.{port_streams, unit_streams, streams_of, ports_of}
 use Rattle.plant_streams.specs.declared.streams.StreamSource.{StreamSource}
 use Rattle.plant_streams.specs.declared.streams.StreamSource.TheVariants as source
 use Rattle.plant_checks.specs.Checks.{same_bool, source_refused, port_refused, each}
+use Rattle.plant_streams.proofs.Counts.{length-feed_streams, length-port_streams}
 use Rattle.plant_checks.proofs.Passed.{passes-test, passes-both}
 
 -- the number of a stream is below their count
-chosen-below : (b : Bool) (s n m : ℕ) (o : Option ℕ) → (o ≡ Some n → n < m) → s < m → (if b then Some s else o) ≡ Some n → n < m
+chosen-below : (b : Bool) (s n m : ℕ) (o : Option ℕ) → (o ≡ Some n → n < m) → s < m →
+    (if b then Some s else o) ≡ Some n → n < m
 chosen-below true s n m o h l e = let g : s ≡ n = cc in omega arith
 chosen-below false s n m o h l e = h e
 
@@ -38,9 +43,11 @@ number_named streams reference = unwrap_or (number_of streams reference.name) 0
 pub record IsFound (streams : List Stream) (reference : Reference) : Type 0 where
   pub named : number_of streams reference.name ≡ Some (number_named streams reference)
   pub there : number_named streams reference < length streams
-  pub fits : slice_index_or (map (λ stream. stream.signal) streams) (number_named streams reference) false ≡ reference.signal
+  pub fits : slice_index_or (map (λ stream. stream.signal) streams) (number_named streams reference) false
+      ≡ reference.signal
 
-found-at : (streams : List Stream) (u : ℕ) (reference : Reference) (o : Option ℕ) → ((n : ℕ) → o ≡ Some n → n < length streams) →
+found-at : (streams : List Stream) (u : ℕ) (reference : Reference) (o : Option ℕ) →
+    ((n : ℕ) → o ≡ Some n → n < length streams) →
     source_refused u reference o ≡ Ok tt → port_refused u reference (gives_signal streams o) ≡ Ok tt →
     (o ≡ Some (unwrap_or o 0)) × (unwrap_or o 0 < length streams)
     × (slice_index_or (map (λ stream. stream.signal) streams) (unwrap_or o 0) false ≡ reference.signal)
@@ -49,7 +56,8 @@ found-at streams u reference (Some n) below e g = (refl, below n refl, same-bool
 
 found : (streams : List Stream) (u : ℕ) (reference : Reference) →
     source_refused u reference (number_of streams reference.name) ≡ Ok tt →
-    port_refused u reference (gives_signal streams (number_of streams reference.name)) ≡ Ok tt → IsFound streams reference
+    port_refused u reference (gives_signal streams (number_of streams reference.name)) ≡ Ok tt →
+    IsFound streams reference
 found streams u reference e g =
     let h = found-at streams u reference (number_of streams reference.name)
     (λ n h. number-below streams 0 n (length streams) reference.name (omega arith) h) e g in
@@ -61,7 +69,8 @@ AreFound streams references = AllByRecursion (IsFound streams) references
 
 pub found-each : (streams : List Stream) (u i : ℕ) (references : List Reference) →
     each (λ i reference. source_refused u reference (number_of streams reference.name)) i references ≡ Ok tt →
-    each (λ i reference. port_refused u reference (gives_signal streams (number_of streams reference.name))) i references
+    each (λ i reference. port_refused u reference (gives_signal streams (number_of streams reference.name))) i
+    references
     ≡ Ok tt →
     AreFound streams references
 found-each streams u i [] e g = tt
@@ -76,17 +85,9 @@ pub numbers-there : (streams : List Stream) (references : List Reference) → Ar
 numbers-there streams [] h = tt
 numbers-there streams (reference ∷ references) h = (h.0.there, numbers-there streams references h.1)
 
--- how many streams a list of feeds or of ports has
-pub length-feed_streams : (f : ℕ) (feeds : List FeedPart) → length (feed_streams f feeds) ≡ length feeds
-length-feed_streams f [] = refl
-length-feed_streams f (feed ∷ feeds) = ap suc (length-feed_streams (suc f) feeds)
-
-pub length-port_streams : (unit : List ℕ) (u p : ℕ) (ports : List Port) → length (port_streams unit u p ports) ≡ length ports
-length-port_streams unit u p [] = refl
-length-port_streams unit u p (port ∷ ports) = ap suc (length-port_streams unit u (suc p) ports)
-
 -- what a list has behind its first items
-pub at-placed : {A B : Type 0} (f : A → B) (xs p q : List A) (n k m : ℕ) (d : B) → xs ≡ p ++ q → length p ≡ n → m ≡ n + k →
+pub at-placed : {A B : Type 0} (f : A → B) (xs p q : List A) (n k m : ℕ) (d : B) → xs ≡ p ++ q →
+    length p ≡ n → m ≡ n + k →
     slice_index_or (map f xs) m d ≡ slice_index_or (map f q) k d
 at-placed f xs p q n k m d e l g =
     let h : m ≡ length (map f p) + k = omega (arith, length-map p f) in
@@ -120,7 +121,8 @@ rest-all parts = record {
 }
 
 -- those behind a unit
-pub rest-next : (parts : FileParts) (u first : ℕ) (unit : UnitPart) (rest : List UnitPart) → AreRest parts u first (unit ∷ rest) →
+pub rest-next : (parts : FileParts) (u first : ℕ) (unit : UnitPart) (rest : List UnitPart) →
+    AreRest parts u first (unit ∷ rest) →
     AreRest parts (suc u) (first + length (ports_of unit.kind)) rest
 rest-next parts u first unit rest h =
     let outputs : List Stream = port_streams unit.name u 0 (ports_of unit.kind) in
@@ -148,4 +150,8 @@ feeds-first parts f l = feed-at 0 f f parts.feeds (unit_streams 0 parts.units) (
 pub feeds-there : (parts : FileParts) (f : ℕ) → f < length parts.feeds → f < length (streams_of parts)
 unfolding streams_of
 feeds-there parts f l =
-    omega (arith, length-append (feed_streams 0 parts.feeds) (unit_streams 0 parts.units), length-feed_streams 0 parts.feeds)
+    omega (
+      arith,
+      length-append (feed_streams 0 parts.feeds) (unit_streams 0 parts.units),
+      length-feed_streams 0 parts.feeds,
+    )

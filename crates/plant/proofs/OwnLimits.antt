@@ -1,5 +1,6 @@
 -- The limits of a plant and of its units are limits.
-use Rattle.std.proofs.Common.{ℤ, ◌≤ℤ◌, ◌≡◌, pos, Ok, unwrap_or, Option, Some, None, ℕ, zero, suc, List, [], ◌∷◌, map, slice_index_or}
+use Rattle.std.proofs.Common.{ℤ, ◌≤ℤ◌, ◌≡◌, pos, Ok, unwrap_or, Option, Some, None, ℕ, zero, suc, List, [], ◌∷◌, map}
+use Rattle.std.proofs.Common.{slice_index_or}
 use Rattle.std.specs.Prelude.{IfSome}
 use Rattle.std.specs.List.{AllByRecursion}
 use Rattle.quant.specs.Interval.{Interval, IsBand, IsInside, wide}
@@ -16,7 +17,8 @@ use Rattle.plant_checks.proofs.Passed.{passes-both, passes-begins, ArePassed}
 use Rattle.plant_checks.specs.declared.fault.PlantFault.{PlantFault}
 
 -- a wide band from a number on
-wide-from : (first : ℤ) (band : Interval) → IsWide band → first ≤ℤ band.lo → IsBand band × IsInside band (wide_from first)
+wide-from : (first : ℤ) (band : Interval) → IsWide band → first ≤ℤ band.lo →
+    IsBand band × IsInside band (wide_from first)
 wide-from first band w l = (w.0, record { above = l; below = (w.1).below })
 
 -- the plant's limits
@@ -60,13 +62,17 @@ own-limits limits u unit h w e =
     }
 
 -- those of each unit from number i on
-each-limits : (limits : Limits) (i : ℕ) (units : List UnitPart) (u : ℕ) → AreLimits limits → AllByRecursion IsUnitPart units →
-    each own_limits_check i units ≡ Ok tt → AreLimits (slice_index_or (map (λ unit. limits_in limits unit.limits) units) u limits)
+each-limits : (limits : Limits) (i : ℕ) (units : List UnitPart) (u : ℕ) → AreLimits limits →
+    AllByRecursion IsUnitPart units →
+    each own_limits_check i units ≡ Ok tt →
+    AreLimits (slice_index_or (map (λ unit. limits_in limits unit.limits) units) u limits)
 each-limits limits i [] u h w e = h
 each-limits limits i (unit ∷ units) zero h w e =
-    own-limits limits i unit h (w.0).limits (passes-both (own_limits_check i unit) (each own_limits_check (suc i) units) e).0
+    own-limits limits i unit h (w.0).limits
+    (passes-both (own_limits_check i unit) (each own_limits_check (suc i) units) e).0
 each-limits limits i (unit ∷ units) (suc u) h w e =
-    each-limits limits (suc i) units u h w.1 (passes-both (own_limits_check i unit) (each own_limits_check (suc i) units) e).1
+    each-limits limits (suc i) units u h w.1
+    (passes-both (own_limits_check i unit) (each own_limits_check (suc i) units) e).1
 
 -- and of each stream
 pub stream-limits : (parts : FileParts) (from : StreamSource) → AreInRange parts → ArePassed parts →

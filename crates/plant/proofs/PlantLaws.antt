@@ -42,7 +42,8 @@ parts-sound parts ranges passes =
       links = units-linked parts ranges sources units;
     }
 
-pub verdict-unique : (parts : FileParts) (one other : Checked) → IsVerdict parts one → IsVerdict parts other → one ≡ other
+pub verdict-unique : (parts : FileParts) (one other : Checked) → IsVerdict parts one →
+    IsVerdict parts other → one ≡ other
 verdict-unique = one-verdict
 
 pub verdict-exists : (parts : FileParts) → (verdict : Checked) × IsVerdict parts verdict
@@ -70,9 +71,11 @@ pub opening-states : (parts : FileParts) → IsPlant parts → HasStatesOf parts
 opening-states parts plant u l = refl
 
 pub step-streams : (parts : FileParts) (tick : ℕ) (before after : RowBands) → IsPlant parts →
-    HasStatesOf parts tick before → HasFeedsOf parts tick before → IsStep parts before after → HasStreamsOf parts tick after
+    HasStatesOf parts tick before → HasFeedsOf parts tick before → IsStep parts before after →
+    HasStreamsOf parts tick after
 step-streams parts tick before after plant = next-streams parts tick before after (parts-ranked parts plant)
 
 pub step-states : (parts : FileParts) (tick : ℕ) (before after : RowBands) → IsPlant parts →
-    HasStatesOf parts tick before → HasFeedsOf parts tick before → IsStep parts before after → HasStatesOf parts (suc tick) after
+    HasStatesOf parts tick before → HasFeedsOf parts tick before → IsStep parts before after →
+    HasStatesOf parts (suc tick) after
 step-states parts tick before after plant = next-states parts tick before after (parts-ranked parts plant)

@@ -11,7 +11,8 @@ use Rattle.plant.specs.Steps.{greatest}
 use Rattle.plant.proofs.Lookups.{units-counted}
 
 -- as many ranks as units
-pub ranks_counted : (parts : FileParts) → sheet.IsRanked (plant_of parts) → length (ranks_of parts) ≡ length (units_of parts)
+pub ranks_counted : (parts : FileParts) → sheet.IsRanked (plant_of parts) →
+    length (ranks_of parts) ≡ length (units_of parts)
 unfolding plant_of
 ranks_counted parts ranked = ranked.counted ∙ units-counted parts
 

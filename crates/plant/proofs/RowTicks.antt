@@ -16,20 +16,25 @@ use Rattle.plant.specs.Sound.{ArePartsSound}
 use Rattle.plant.proofs.Rounds.{run-inside}
 
 -- the states of a row
-pub states-of-row : (parts : FileParts) (states streams : List (List Interval)) → IsRow parts (record { states = states; streams = streams }) → AreStates parts states
+pub states-of-row : (parts : FileParts) (states streams : List (List Interval)) →
+    IsRow parts (record { states = states; streams = streams }) → AreStates parts states
 states-of-row parts states streams row = record { counted = row.counted; inside = row.states }
 
 -- after all units have shown themselves each stream is inside its limits
-pub streams-after : (parts : FileParts) (states before after : List (List Interval)) → ArePartsSound parts → sheet.IsRanked (plant_of parts) →
-    IsRow parts (record { states = states; streams = before }) → AreShown parts states before after → AreStreams parts after
+pub streams-after : (parts : FileParts) (states before after : List (List Interval)) → ArePartsSound parts →
+    sheet.IsRanked (plant_of parts) →
+    IsRow parts (record { states = states; streams = before }) → AreShown parts states before after →
+    AreStreams parts after
 streams-after parts states before after sound ranked row have = record {
   counted = have.row.streams_counted;
   inside = λ s h.
-      subst (λ (bands : List Interval). AllInside bands (limits_at parts s)) (sym (have.shown s h)) (run-inside parts states before sound ranked row s h);
+      subst (λ (bands : List Interval). AllInside bands (limits_at parts s)) (sym (have.shown s h))
+      (run-inside parts states before sound ranked row s h);
 }
 
 -- the row after the tick
-pub row-of-tick : (parts : FileParts) (before after : RowBands) → AreShown parts before.states before.streams after.streams →
+pub row-of-tick : (parts : FileParts) (before after : RowBands) →
+    AreShown parts before.states before.streams after.streams →
     HaveStepped parts (length (units_of parts)) after.streams before.states after.states → IsRow parts after
 row-of-tick parts before after shown steps = record {
   counted = steps.states.counted;
@@ -48,6 +53,8 @@ step-of-tick parts before after ranked shown steps = record {
       let plant = plant_of parts in
       steps.stepped u h h
       ∙ ap (λ (ins : List Interval). stepped (on_bands plant) (sheet.unit_at plant u) (bands_at before.states u) ins)
-      (inputs-kept (same-kept (on_bands plant)) (sheet.unit_at plant u) (bands_at after.streams) (run_at parts before.states before.streams)
-      (λ q c. shown.shown q (omega (arith, ranked.reads u q (omega (arith, units-counted parts)) c, streams-counted parts))));
+      (inputs-kept (same-kept (on_bands plant)) (sheet.unit_at plant u) (bands_at after.streams)
+      (run_at parts before.states before.streams)
+      (λ q c. shown.shown q
+      (omega (arith, ranked.reads u q (omega (arith, units-counted parts)) c, streams-counted parts))));
 }

@@ -1,5 +1,6 @@
 -- A row stays one where a band is set inside its limit.
-use Rattle.std.proofs.Common.{ℕ, zero, suc, pos, List, [], ◌∷◌, set, slice_index_or, ◌≡◌, ◌≢◌, ◌<◌, length, sym, ap, ◌∙◌, subst, inl, inr, length-set, get_or-set_other}
+use Rattle.std.proofs.Common.{ℕ, zero, suc, pos, List, [], ◌∷◌, set, slice_index_or, ◌≡◌, ◌≢◌, ◌<◌, length, sym, ap}
+use Rattle.std.proofs.Common.{◌∙◌, subst, inl, inr, length-set, get_or-set_other}
 use Rattle.std.proofs.lemmas.Bool.{cases_eq}
 use Rattle.std.proofs.lemmas.Grind.{get_or-set_at}
 use Rattle.quant.specs.Interval.{Interval, IsInside, AllInside, point}
@@ -7,33 +8,38 @@ use Rattle.parts.specs.Parts.{FileParts}
 use Rattle.plant_streams.specs.Limits.{limit_at, limits_at}
 use Rattle.plant.specs.Rows.{RowBands, stream_in, set_band, IsRow}
 
-inside-set : (As Bs : List Interval) (n : ℕ) (A : Interval) → AllInside As Bs → IsInside A (slice_index_or Bs n (point (pos 0))) →
+inside-set : (As Bs : List Interval) (n : ℕ) (A : Interval) → AllInside As Bs →
+    IsInside A (slice_index_or Bs n (point (pos 0))) →
     AllInside (set As n A) Bs
 inside-set [] Bs n A h i = h
 inside-set (A ∷ As) [] n C h i = absurd h
 inside-set (A ∷ As) (B ∷ Bs) zero C h i = (i, h.1)
 inside-set (A ∷ As) (B ∷ Bs) (suc n) C h i = (h.0, inside-set As Bs n C h.1 i)
 
-pub set-is-row : (parts : FileParts) (row : RowBands) (s c : ℕ) (band : Interval) → s < length row.streams → IsRow parts row →
+pub set-is-row : (parts : FileParts) (row : RowBands) (s c : ℕ) (band : Interval) → s < length row.streams →
+    IsRow parts row →
     IsInside band (limit_at parts s c) → IsRow parts (set_band row s c band)
 set-is-row parts row s c band h r i =
     let after = set_band row s c band in
     let limits = λ (t : ℕ). limits_at parts t in
     let new : List Interval = set (stream_in row s) c band in
     let same : (t : ℕ) → t ≡ s → stream_in after t ≡ new = λ t e. get_or-set_at row.streams s t new [] e h in
-    let other : (t : ℕ) → t ≢ s → stream_in after t ≡ stream_in row t = λ t ne. get_or-set_other row.streams s t new [] ne in
+    let other : (t : ℕ) → t ≢ s → stream_in after t ≡ stream_in row t =
+    λ t ne. get_or-set_other row.streams s t new [] ne in
     record {
       counted = r.counted;
       streams_counted = length-set row.streams s new ∙ r.streams_counted;
       channels = λ t l. elim (cases_eq t s) [
         | inl e ↦
-            ap length (same t e) ∙ length-set (stream_in row s) c band ∙ ap (λ w. length (stream_in row w)) (sym e) ∙ r.channels t l
+            ap length (same t e) ∙ length-set (stream_in row s) c band ∙ ap (λ w. length (stream_in row w)) (sym e)
+            ∙ r.channels t l
         | inr ne ↦ ap length (other t ne) ∙ r.channels t l
       ];
       states = r.states;
       feeds = λ f l. elim (cases_eq f s) [
         | inl e ↦
-            let before : AllInside (stream_in row s) (limits s) = subst (λ w. AllInside (stream_in row w) (limits w)) e (r.feeds f l) in
+            let before : AllInside (stream_in row s) (limits s) =
+            subst (λ w. AllInside (stream_in row w) (limits w)) e (r.feeds f l) in
             subst (λ (bands : List Interval). AllInside bands (limits f)) (sym (same f e))
             (subst (λ w. AllInside new (limits w)) (sym e) (inside-set (stream_in row s) (limits s) c band before i))
         | inr ne ↦ subst (λ (bands : List Interval). AllInside bands (limits f)) (sym (other f ne)) (r.feeds f l)

@@ -1,5 +1,6 @@
 -- The plant of the definitions that sound parts with ranks are.
-use Rattle.std.proofs.Common.{ℕ, zero, suc, List, [], ◌∷◌, map, slice_index_or, ◌<◌, length, arith, Contains, subst, ◌≡◌, false, refl, slice_index, max, ◌++◌, fold, ap, sym, ◌∙◌}
+use Rattle.std.proofs.Common.{ℕ, zero, suc, List, [], ◌∷◌, map, slice_index_or, ◌<◌, length, arith, Contains, subst}
+use Rattle.std.proofs.Common.{◌≡◌, false, refl, slice_index, max, ◌++◌, fold, ap, sym, ◌∙◌}
 use Rattle.std.specs.List.{AllByRecursion}
 use Rattle.std.proofs.lemmas.List.{length-map}
 use Rattle.quant.specs.Interval.{AllBands, AllInside}
@@ -16,7 +17,7 @@ use Rattle.plant_streams.specs.declared.streams.StreamSource.TheVariants as sour
 use Rattle.plant_streams.specs.Limits.{source_at}
 use Rattle.plant_units.specs.declared.units.Unit.{Unit}
 use Rattle.plant_units.specs.Units.{opening_of, units_of, sheet_unit, reads_of, is_instant}
-use Rattle.plant_units.proofs.UnitLimits.{unit-keeps}
+use Rattle.plant_units.proofs.AllKinds.{unit-keeps}
 use Rattle.plant.specs.Sound.{AreSoundFrom, ArePartsSound}
 use Rattle.plant.specs.PlantOf.{plant_of, carried_of, ranks_of, giver_in, origin_in, links_of}
 use Rattle.plant.proofs.Feeds.{given-bands}
@@ -39,7 +40,8 @@ all-bands parts n ranges sound = record {
 
 -- inside their limits
 openings-inside : (parts : FileParts) (i u : ℕ) (units : List Unit) → AreSoundFrom parts i units →
-    AllInside (slice_index_or (map opening_of units) u []) (slice_index_or (map sheet_unit units) u no_unit).state_limits
+    AllInside (slice_index_or (map opening_of units) u [])
+    (slice_index_or (map sheet_unit units) u no_unit).state_limits
 unfolding sheet_unit
 openings-inside parts i u [] h = tt
 openings-inside parts i zero (x ∷ units) h = (h.0).starts
@@ -48,7 +50,8 @@ openings-inside parts i (suc u) (x ∷ units) h = openings-inside parts (suc i) 
 -- and keep these
 units-keep : (parts : FileParts) (i u : ℕ) (units : List Unit) → AreSoundFrom parts i units →
     KeepsLimits Floor (slice_index_or (map sheet_unit units) u no_unit)
-units-keep parts i u [] h = record { next = λ states inputs bands others. tt; view = λ p states inputs bands others inside. tt }
+units-keep parts i u [] h =
+    record { next = λ states inputs bands others. tt; view = λ p states inputs bands others inside. tt }
 units-keep parts i zero (x ∷ units) h = unit-keeps x (h.0).sound
 units-keep parts i (suc u) (x ∷ units) h = units-keep parts (suc i) u units h.1
 
@@ -60,7 +63,8 @@ all-limited parts sound = record {
 }
 
 -- each shows what it gives
-units-show : (parts : FileParts) (i u p : ℕ) (units : List Unit) → AreSoundFrom parts i units → p < length (outputs_in units u) →
+units-show : (parts : FileParts) (i u p : ℕ) (units : List Unit) → AreSoundFrom parts i units →
+    p < length (outputs_in units u) →
     p < length (slice_index_or (map sheet_unit units) u no_unit).view
 unfolding sheet_unit
 units-show parts i u p [] h l = absurd (omega arith)
@@ -116,14 +120,17 @@ greatest-given parts a (s ∷ reads) =
     let plant = plant_of parts in
     greatest-behind parts (source_at parts s) a (givers parts reads)
     ∙ greatest-given parts (max a (origin_rank plant (origin_in (source_at parts s)))) reads
-    ∙ ap (λ from. fold max (max a (origin_rank plant from)) (map (rank_of plant) reads)) (sym (origin-at (streams_of parts) s))
+    ∙ ap (λ from. fold max (max a (origin_rank plant from)) (map (rank_of plant) reads))
+    (sym (origin-at (streams_of parts) s))
 
 pub all-ranked : (parts : FileParts) → ArePartsSound parts → AreRanks (links_of parts) (ranks_of parts) →
     IsRanked (plant_of parts)
 unfolding plant_of links_of
 all-ranked parts sound ranked =
-    let units : length (map sheet_unit (units_of parts)) ≡ length (units_of parts) = length-map (units_of parts) sheet_unit in
-    let linked : length (map is_instant (units_of parts)) ≡ length (units_of parts) = length-map (units_of parts) is_instant in
+    let units : length (map sheet_unit (units_of parts)) ≡ length (units_of parts) =
+    length-map (units_of parts) sheet_unit in
+    let linked : length (map is_instant (units_of parts)) ≡ length (units_of parts) =
+    length-map (units_of parts) is_instant in
     let streams : length (plant_of parts).streams ≡ length (streams_of parts)
     = length-map (streams_of parts) (λ stream. origin_in stream.source) in
     record {

@@ -1,29 +1,31 @@
 -- Where streams come from, by their numbers: the feeds, and then the outputs of each unit in turn.
-use Rattle.std.proofs.Common.{◌≡◌, ℕ, suc, ◌+◌, ◌-◌, List, [], ◌∷◌, length, refl, ap, map, slice_index_or, zero, ◌<◌, ◌++◌, arith, slice_index, sym, ◌∙◌, subst, subst₂, ⊎_elim, add-zero}
+use Rattle.std.proofs.Common.{◌≡◌, ℕ, suc, ◌+◌, ◌-◌, List, [], ◌∷◌, length, refl, ap, map, slice_index_or, zero, ◌<◌}
+use Rattle.std.proofs.Common.{◌++◌, arith, slice_index, sym, ◌∙◌, subst, subst₂, ⊎_elim, add-zero}
 use Rattle.std.specs.List.{range_with_len}
 use Rattle.std.proofs.lemmas.List.FromFn.{length-range_with_len, get_or-range_with_len}
 use Rattle.std.proofs.lemmas.Bool.{cases_lt}
 use Rattle.std.proofs.lemmas.List.{length-append}
-use Rattle.quant.specs.declared.limits.Limits.{Limits}
 use Rattle.flowsheet.specs.Plant.{feed, Origin, port, origin_of}
 use Rattle.parts.specs.Parts.{FileParts}
 use Rattle.parts.specs.declared.units.UnitPart.{UnitPart}
-use Rattle.parts.specs.declared.units.KindPart.{KindPart}
-use Rattle.parts.specs.declared.units.KindPart.TheVariants as part
 use Rattle.plant_streams.specs.Streams.{ports_of, Port, port_streams, streams_of, unit_streams, feed_streams}
 use Rattle.plant_streams.specs.declared.streams.Stream.{Stream}
 use Rattle.plant_streams.specs.declared.streams.StreamSource.{StreamSource}
 use Rattle.plant_streams.specs.declared.streams.StreamSource.TheVariants as source
 use Rattle.plant_streams.specs.Limits.{limits_in, source_at}
-use Rattle.plant_units.specs.Units.{units_from, units_of, gives_of, made_unit, reads_of, inputs_of, unit_from}
+use Rattle.plant_units.specs.Units.{units_from, units_of, gives_of, inputs_of, unit_from}
 use Rattle.plant_units.specs.declared.units.Unit.{Unit}
-use Rattle.plant.proofs.Numbers.{length-port_streams, at-placed, length-feed_streams, feeds-first}
+use Rattle.plant_units.proofs.Making.{is_made}
+use Rattle.plant_streams.proofs.Counts.{length-feed_streams, length-port_streams}
+use Rattle.plant.proofs.Numbers.{at-placed, feeds-first}
 use Rattle.plant.specs.PlantOf.{origin_in, plant_of}
 
 -- there are as many units as parts of units
-length-units_from : (parts : FileParts) (first : ℕ) (rest : List UnitPart) → length (units_from parts first rest) ≡ length rest
+length-units_from : (parts : FileParts) (first : ℕ) (rest : List UnitPart) →
+    length (units_from parts first rest) ≡ length rest
 length-units_from parts first [] = refl
-length-units_from parts first (unit ∷ rest) = ap suc (length-units_from parts (first + length (ports_of unit.kind)) rest)
+length-units_from parts first (unit ∷ rest) =
+    ap suc (length-units_from parts (first + length (ports_of unit.kind)) rest)
 
 pub length-units_of : (parts : FileParts) → length (units_of parts) ≡ length parts.units
 unfolding units_of
@@ -31,27 +33,6 @@ length-units_of parts = length-units_from parts (length parts.feeds) parts.units
 
 abbrev pub outputs_in : List Unit → ℕ → List ℕ
 outputs_in units u = slice_index_or (map gives_of units) u []
-
--- what a made unit reads and gives
-pub made-reads : (name : List ℕ) (limits : Limits) (inputs outputs : List ℕ) (kind : KindPart) →
-    reads_of (made_unit name limits inputs outputs kind) ≡ inputs
-unfolding made_unit
-made-reads name limits inputs outputs (part.Tank _ _ _ _ _ _ _) = refl
-made-reads name limits inputs outputs (part.Reactor _ _ _ _ _ _ _ _ _ _ _) = refl
-made-reads name limits inputs outputs (part.Column _ _ _ _ _ _ _ _ _ _) = refl
-made-reads name limits inputs outputs (part.Controller _ _ _ _ _ _ _ _) = refl
-made-reads name limits inputs outputs (part.Mixer _) = refl
-made-reads name limits inputs outputs (part.Splitter _ _) = refl
-
-pub made-gives : (name : List ℕ) (limits : Limits) (inputs outputs : List ℕ) (kind : KindPart) →
-    gives_of (made_unit name limits inputs outputs kind) ≡ outputs
-unfolding made_unit
-made-gives name limits inputs outputs (part.Tank _ _ _ _ _ _ _) = refl
-made-gives name limits inputs outputs (part.Reactor _ _ _ _ _ _ _ _ _ _ _) = refl
-made-gives name limits inputs outputs (part.Column _ _ _ _ _ _ _ _ _ _) = refl
-made-gives name limits inputs outputs (part.Controller _ _ _ _ _ _ _ _) = refl
-made-gives name limits inputs outputs (part.Mixer _) = refl
-made-gives name limits inputs outputs (part.Splitter _ _) = refl
 
 -- the source of a port's stream
 pub port-at : (name : List ℕ) (u p k n : ℕ) (ports : List Port) (rest : List Stream) (d : StreamSource) →
@@ -66,8 +47,8 @@ pub unit-gives : (parts : FileParts) (first : ℕ) (x : UnitPart) →
     gives_of (unit_from parts first x) ≡ range_with_len first (length (ports_of x.kind))
 unfolding unit_from
 unit-gives parts first x =
-    made-gives x.name (limits_in parts.limits x.limits) (inputs_of (streams_of parts) x.kind)
-    (range_with_len first (length (ports_of x.kind))) x.kind
+    (is_made x.name (limits_in parts.limits x.limits) (inputs_of (streams_of parts) x.kind)
+    (range_with_len first (length (ports_of x.kind))) x.kind).gives
 
 output-at : (parts : FileParts) (first k : ℕ) (x : UnitPart) → k < length (ports_of x.kind) →
     (k < length (gives_of (unit_from parts first x))) × (slice_index (gives_of (unit_from parts first x)) k ≡ first + k)
@@ -76,7 +57,8 @@ output-at parts first k x l =
     rw (unit-gives parts first x) (omega (arith, length-range_with_len first n), get_or-range_with_len first n k 0 l)
 
 -- what holds of each output of the units from number u on holds of each of their streams
-at-outputs : (parts : FileParts) (Q : ℕ → StreamSource → Type 0) (u first : ℕ) (rest : List UnitPart) (d : StreamSource) →
+at-outputs : (parts : FileParts) (Q : ℕ → StreamSource → Type 0) (u first : ℕ) (rest : List UnitPart)
+    (d : StreamSource) →
     ((j p : ℕ) → j < length rest → p < length (outputs_in (units_from parts first rest) j) →
     Q (slice_index (outputs_in (units_from parts first rest) j) p) (source.Port (u + j) p)) →
     (k : ℕ) → k < length (unit_streams u rest) →
@@ -85,7 +67,8 @@ at-outputs parts Q u first [] d h k l = absurd (omega arith)
 at-outputs parts Q u first (x ∷ rest) d h k l = ⊎_elim
     (λ a.
     let o = output-at parts first k x a in
-    let here : slice_index_or (map (λ (stream : Stream). stream.source) (unit_streams u (x ∷ rest))) k d ≡ source.Port u k
+    let here : slice_index_or (map (λ (stream : Stream). stream.source) (unit_streams u (x ∷ rest))) k d
+    ≡ source.Port u k
     = port-at x.name u 0 k k (ports_of x.kind) (unit_streams (suc u) rest) d a (omega arith) in
     subst₂ Q o.1 (ap (λ v. source.Port v k) (add-zero u) ∙ sym here) (h 0 k (omega arith) o.0))
     (λ b.
@@ -96,10 +79,12 @@ at-outputs parts Q u first (x ∷ rest) d h k l = ⊎_elim
     let all : length (own ++ others) ≡ length own + length others = length-append own others in
     let behind : slice_index_or (map (λ (stream : Stream). stream.source) (own ++ others)) k d
     ≡ slice_index_or (map (λ (stream : Stream). stream.source) others) (k - n) d
-    = at-placed (λ (stream : Stream). stream.source) (own ++ others) own others n (k - n) k d refl owned (omega arith) in
+    = at-placed (λ (stream : Stream). stream.source) (own ++ others) own others n (k - n) k d refl owned
+    (omega arith) in
     subst₂ Q (omega arith) (sym behind)
     (at-outputs parts Q (suc u) (first + n) rest d
-    (λ j p e f. subst (λ v. Q (slice_index (outputs_in (units_from parts (first + n) rest) j) p) (source.Port v p)) (omega arith)
+    (λ j p e f. subst (λ v. Q (slice_index (outputs_in (units_from parts (first + n) rest) j) p) (source.Port v p))
+    (omega arith)
     (h (suc j) p (omega arith) f))
     (k - n) (omega arith)))
     (cases_lt k (length (ports_of x.kind)))
@@ -119,8 +104,10 @@ by-source parts Q fed shows s l = ⊎_elim
     let others : List Stream = unit_streams 0 parts.units in
     let counted : length feeds ≡ n = length-feed_streams 0 parts.feeds in
     let all : length (streams_of parts) ≡ length feeds + length others = length-append feeds others in
-    let behind : source_at parts s ≡ slice_index_or (map (λ (stream : Stream). stream.source) others) (s - n) (source.Feed 0)
-    = at-placed (λ (stream : Stream). stream.source) (streams_of parts) feeds others n (s - n) s (source.Feed 0) refl counted
+    let behind : source_at parts s ≡ slice_index_or (map (λ (stream : Stream). stream.source) others) (s - n)
+    (source.Feed 0)
+    = at-placed (λ (stream : Stream). stream.source) (streams_of parts) feeds others n (s - n) s
+    (source.Feed 0) refl counted
     (omega arith) in
     subst₂ Q (omega arith) (sym behind)
     (at-outputs parts Q 0 n parts.units (source.Feed 0)

@@ -74,7 +74,8 @@ pub made-sound : (name : List ℕ) (limits : Limits) (inputs outputs : List ℕ)
     AreLimits limits →
     IsUnitSound (made_unit name limits inputs outputs kind)
 unfolding made_unit
-made-sound name limits inputs outputs (part.Tank input valve k volume flow conc temp) h l = record { k = h.2; limits = l }
+made-sound name limits inputs outputs (part.Tank input valve k volume flow conc temp) h l =
+    record { k = h.2; limits = l }
 made-sound name limits inputs outputs (part.Reactor input valve jacket k rate heat ua volume flow conc temp) h l =
     record { k = h.3; heat = h.5; ua = h.6; limits = l }
 made-sound name limits inputs outputs

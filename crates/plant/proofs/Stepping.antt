@@ -1,5 +1,6 @@
 -- A unit steps its states.
-use Rattle.std.proofs.Common.{ℕ, ◌<◌, List, length, get_or, subst, sym, ◌≡◌, ap, [], set, inl, inr, ◌∙◌, get_or-set_other, length-set, arith, refl, ◌+◌, ◌≢◌}
+use Rattle.std.proofs.Common.{ℕ, ◌<◌, List, length, get_or, subst, sym, ◌≡◌, ap, [], set, inl, inr, ◌∙◌}
+use Rattle.std.proofs.Common.{get_or-set_other, length-set, arith, refl, ◌+◌, ◌≢◌}
 use Rattle.std.specs.List.{AllByRecursion}
 use Rattle.std.proofs.lemmas.Bool.{cases_eq}
 use Rattle.std.proofs.lemmas.Grind.{get_or-set_at}
@@ -18,36 +19,46 @@ use Rattle.plant.specs.Steps.{AreStreams, AreStates, stepped_by, HaveStepped}
 
 -- the limits of its states
 pub states-inside : (parts : FileParts) (n : ℕ) (x : Unit) (state : List Interval) → n < length (units_of parts) →
-    AllInside state (sheet.unit_at (plant_of parts) n).state_limits → AllInside state (state_limits_of (get_or (units_of parts) n x))
+    AllInside state (sheet.unit_at (plant_of parts) n).state_limits →
+    AllInside state (state_limits_of (get_or (units_of parts) n x))
 unfolding sheet_unit
-states-inside parts n x state h inside = subst (λ (u : sheet.PlantUnit). AllInside state u.state_limits) (unit-is parts n x h) inside
+states-inside parts n x state h inside =
+    subst (λ (u : sheet.PlantUnit). AllInside state u.state_limits) (unit-is parts n x h) inside
 
 pub inside-states : (parts : FileParts) (n : ℕ) (x : Unit) (state : List Interval) → n < length (units_of parts) →
-    AllInside state (state_limits_of (get_or (units_of parts) n x)) → AllInside state (sheet.unit_at (plant_of parts) n).state_limits
+    AllInside state (state_limits_of (get_or (units_of parts) n x)) →
+    AllInside state (sheet.unit_at (plant_of parts) n).state_limits
 unfolding sheet_unit
-inside-states parts n x state h inside = subst (λ (u : sheet.PlantUnit). AllInside state u.state_limits) (sym (unit-is parts n x h)) inside
+inside-states parts n x state h inside =
+    subst (λ (u : sheet.PlantUnit). AllInside state u.state_limits) (sym (unit-is parts n x h)) inside
 
 -- it may take what is inside the limits of all streams
 pub may-step : (parts : FileParts) (n : ℕ) (x : Unit) (states streams : List (List Interval)) → ArePartsSound parts →
-    AreStates parts states → AreStreams parts streams → n < length (units_of parts) → MayStep (get_or (units_of parts) n x) (bands_at states n) streams
+    AreStates parts states → AreStreams parts streams → n < length (units_of parts) →
+    MayStep (get_or (units_of parts) n x) (bands_at states n) streams
 may-step parts n x states streams s a b h =
     let t = sound-at parts n x s.units h in
     record {
       sound = t.sound;
       states = states-inside parts n x (bands_at states n) h (a.inside n h);
-      known = subst (λ (k : ℕ). AllByRecursion (λ q. q < k) (reads_of (get_or (units_of parts) n x))) (sym b.counted) t.reads;
+      known = subst (λ (k : ℕ). AllByRecursion (λ q. q < k) (reads_of (get_or (units_of parts) n x)))
+          (sym b.counted) t.reads;
       inputs = t.takes (bands_at streams) b.inside;
     }
 
 -- its steps are the definitions'
-pub steps-are : (parts : FileParts) (n : ℕ) (x : Unit) (state : List Interval) (streams : List (List Interval)) → n < length (units_of parts) →
-    steps (get_or (units_of parts) n x) state (gathered (reads_of (get_or (units_of parts) n x)) streams) ≡ stepped_by parts streams n state
+pub steps-are : (parts : FileParts) (n : ℕ) (x : Unit) (state : List Interval) (streams : List (List Interval)) →
+    n < length (units_of parts) →
+    steps (get_or (units_of parts) n x) state (gathered (reads_of (get_or (units_of parts) n x)) streams) ≡ stepped_by
+    parts streams n state
 unfolding plant_of sheet_unit steps
 steps-are parts n x state streams h =
-    sym (ap (λ (u : sheet.PlantUnit). stepped (on_bands (plant_of parts)) u state (inputs_of u (bands_at streams))) (unit-is parts n x h))
+    sym (ap (λ (u : sheet.PlantUnit). stepped (on_bands (plant_of parts)) u state (inputs_of u (bands_at streams)))
+    (unit-is parts n x h))
 
 -- they end inside the limits
-pub states-after : (parts : FileParts) (n : ℕ) (x : Unit) (state ins : List Interval) (states : List (List Interval)) → ArePartsSound parts → AreStates parts states →
+pub states-after : (parts : FileParts) (n : ℕ) (x : Unit) (state ins : List Interval)
+    (states : List (List Interval)) → ArePartsSound parts → AreStates parts states →
     n < length (units_of parts) → AreStates parts (set states n (steps (get_or (units_of parts) n x) state ins))
 states-after parts n x state ins states s a h =
     let new : List Interval = steps (get_or (units_of parts) n x) state ins in
@@ -64,22 +75,28 @@ states-after parts n x state ins states s a h =
     }
 
 -- one unit more has stepped
-pub have_stepped-none : (parts : FileParts) (streams before : List (List Interval)) → AreStates parts before → HaveStepped parts 0 streams before before
-have_stepped-none parts streams before a = record { states = a; stepped = λ u h k. absurd (omega arith); rest = λ u h. refl }
+pub have_stepped-none : (parts : FileParts) (streams before : List (List Interval)) → AreStates parts before →
+    HaveStepped parts 0 streams before before
+have_stepped-none parts streams before a =
+    record { states = a; stepped = λ u h k. absurd (omega arith); rest = λ u h. refl }
 
-pub have_stepped-more : (parts : FileParts) (n : ℕ) (streams before now after : List (List Interval)) → n < length (units_of parts) →
-    HaveStepped parts n streams before now → AreStates parts after → after ≡ set now n (stepped_by parts streams n (bands_at now n)) →
+pub have_stepped-more : (parts : FileParts) (n : ℕ) (streams before now after : List (List Interval)) →
+    n < length (units_of parts) →
+    HaveStepped parts n streams before now → AreStates parts after →
+    after ≡ set now n (stepped_by parts streams n (bands_at now n)) →
     HaveStepped parts (n + 1) streams before after
 have_stepped-more parts n streams before now after h have a e =
     let new : List Interval = stepped_by parts streams n (bands_at now n) in
-    let others : (u : ℕ) → u ≢ n → bands_at after u ≡ bands_at now u = λ u ne. ap (λ rows. bands_at rows u) e ∙ get_or-set_other now n u new [] ne in
+    let others : (u : ℕ) → u ≢ n → bands_at after u ≡ bands_at now u =
+    λ u ne. ap (λ rows. bands_at rows u) e ∙ get_or-set_other now n u new [] ne in
     record {
       states = a;
       stepped = λ u k l.
           elim (cases_eq u n) [
             | inl d ↦
                 ap (λ rows. bands_at rows u) e ∙ (get_or-set_at now n u new [] d (omega (arith, have.states.counted))
-                ∙ (ap (stepped_by parts streams n) (have.rest n (omega arith)) ∙ ap (λ v. stepped_by parts streams v (bands_at before v)) (sym d)))
+                ∙ (ap (stepped_by parts streams n) (have.rest n (omega arith))
+                ∙ ap (λ v. stepped_by parts streams v (bands_at before v)) (sym d)))
             | inr ne ↦ others u ne ∙ have.stepped u k (omega arith)
           ];
       rest = λ u k. let ne : u ≢ n = omega arith in others u ne ∙ have.rest u (omega arith);

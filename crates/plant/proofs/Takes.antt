@@ -1,5 +1,6 @@
 -- What a unit reads lies in the limits of the streams that its references name, and so where it may lie.
-use Rattle.std.proofs.Common.{arith, List, [], ◌∷◌, ◌++◌, pos, Bool, true, false, ◌≡◌, ℕ, zero, suc, ◌<◌, length, map, slice_index_or, refl, ap, ◌∙◌, subst, ℤ, ◌≤ℤ◌, Ok, subst₂}
+use Rattle.std.proofs.Common.{arith, List, [], ◌∷◌, ◌++◌, pos, Bool, true, false, ◌≡◌, ℕ, zero, suc, ◌<◌, length, map}
+use Rattle.std.proofs.Common.{slice_index_or, refl, ap, ◌∙◌, subst, ℤ, ◌≤ℤ◌, Ok, subst₂}
 use Rattle.std.proofs.lemmas.Int.{ints}
 use Rattle.std.specs.Prelude.{if◌then◌else◌, flat_map, ◌+ℤ◌, ◌*ℤ◌, int_le, ◌&&◌, codes}
 use Rattle.quant.specs.Interval.{Interval, IsInside, AllInside, wide, point}
@@ -16,7 +17,8 @@ use Rattle.parts.specs.declared.units.KindPart.TheVariants as part
 use Rattle.plant_streams.specs.Limits.{channel_limits, source_limits, stream_limits, source_at, limits_at}
 use Rattle.plant_streams.specs.declared.streams.Stream.{Stream}
 use Rattle.plant_streams.specs.declared.streams.StreamSource.TheVariants as source
-use Rattle.plant_streams.specs.Streams.{streams_of, Reference, mixer_references, number_of, needs_material, references_of}
+use Rattle.plant_streams.specs.Streams.{streams_of, Reference, mixer_references, number_of, needs_material}
+use Rattle.plant_streams.specs.Streams.{references_of}
 use Rattle.plant_checks.specs.declared.fault.PlantFault.{PlantFault}
 use Rattle.plant_checks.specs.Checks.{refuse_if, is_too_fast, greatest_flow, column_kind_check}
 use Rattle.plant_checks.proofs.Passed.{passes-test}
@@ -46,7 +48,8 @@ inside-append (A ∷ As) Cs (B ∷ Bs) Ds h k = (h.0, inside-append As Cs Bs Ds 
 abbrev widest : Bool → List Interval
 widest signal = if signal then wide ∷ [] else wide_from (pos 0) ∷ wide ∷ wide ∷ []
 
-limits-widest : (limits : Limits) (signal : Bool) → AreLimits limits → AllInside (channel_limits limits signal) (widest signal)
+limits-widest : (limits : Limits) (signal : Bool) → AreLimits limits →
+    AllInside (channel_limits limits signal) (widest signal)
 limits-widest limits true h = (h.signal.1, tt)
 limits-widest limits false h = (h.flow.1, (h.conc.1, (h.temp.1, tt)))
 
@@ -78,12 +81,15 @@ named-inside : (parts : FileParts) (streams : ℕ → List Interval) (reference 
     AllInside (streams (number_named (streams_of parts) reference)) (channels_named parts reference)
 named-inside parts streams reference inside found =
     let s : ℕ = number_named (streams_of parts) reference in
-    subst (AllInside (streams s)) (limits-at parts s found.there ∙ ap (channel_limits (limits_named parts reference)) found.fits)
+    subst (AllInside (streams s))
+    (limits-at parts s found.there ∙ ap (channel_limits (limits_named parts reference)) found.fits)
     (inside s found.there)
 
-reads-inside : (parts : FileParts) (streams : ℕ → List Interval) (references : List Reference) → AreInside parts streams →
+reads-inside : (parts : FileParts) (streams : ℕ → List Interval) (references : List Reference) →
+    AreInside parts streams →
     AreFound (streams_of parts) references →
-    AllInside (flat_map streams (map (number_named (streams_of parts)) references)) (flat_map (channels_named parts) references)
+    AllInside (flat_map streams (map (number_named (streams_of parts)) references))
+    (flat_map (channels_named parts) references)
 reads-inside parts streams [] inside found = tt
 reads-inside parts streams (reference ∷ references) inside found =
     inside-append (streams (number_named (streams_of parts) reference))
@@ -104,7 +110,8 @@ channels-widest parts (reference ∷ references) limits =
     (limits-widest (limits_named parts reference) reference.signal (limits (number_named (streams_of parts) reference)))
     (channels-widest parts references limits)
 
-reads-widest : (parts : FileParts) (streams : ℕ → List Interval) (references : List Reference) → AreInside parts streams →
+reads-widest : (parts : FileParts) (streams : ℕ → List Interval) (references : List Reference) →
+    AreInside parts streams →
     HaveLimits parts → AreFound (streams_of parts) references →
     AllInside (flat_map streams (map (number_named (streams_of parts)) references))
     (flat_map (λ reference. widest reference.signal) references)
@@ -116,10 +123,12 @@ reads-widest parts streams references inside limits found =
 mixer-widest : (i : ℕ) (input : List (List ℕ)) →
     flat_map (λ reference. widest reference.signal) (mixer_references i input) ≡ mixers.streams (length input)
 mixer-widest i [] = refl
-mixer-widest i (name ∷ input) = ap (λ (rest : List Interval). wide_from (pos 0) ∷ wide ∷ wide ∷ rest) (mixer-widest (suc i) input)
+mixer-widest i (name ∷ input) =
+    ap (λ (rest : List Interval). wide_from (pos 0) ∷ wide ∷ wide ∷ rest) (mixer-widest (suc i) input)
 
 -- a column that is not too fast at the greatest flows is not too fast below them
-not-too-fast : (holdup slope l v : ℤ) → (int_le (l *ℤ million +ℤ v *ℤ slope) (holdup *ℤ million) && int_le v holdup) ≡ true →
+not-too-fast : (holdup slope l v : ℤ) →
+    (int_le (l *ℤ million +ℤ v *ℤ slope) (holdup *ℤ million) && int_le v holdup) ≡ true →
     IsDrainable holdup slope l v
 not-too-fast holdup slope l v e = record { leaves = grind (arith, ints); passes = grind (arith, ints) }
 
@@ -132,7 +141,8 @@ drains-below holdup slope l v x y s h k d =
     let e = d.passes in
     record { leaves = omega (arith, ints); passes = omega (arith, ints) }
 
-column-drains : (parts : FileParts) (holdup slope : ℤ) (liquid vapour : Reference) (ins : List Interval) (refusal : PlantFault) →
+column-drains : (parts : FileParts) (holdup slope : ℤ) (liquid vapour : Reference) (ins : List Interval)
+    (refusal : PlantFault) →
     pos 0 ≤ℤ slope → liquid.signal ≡ false → vapour.signal ≡ false →
     IsFound (streams_of parts) liquid → IsFound (streams_of parts) vapour →
     AllInside ins (channels_named parts liquid ++ channels_named parts vapour ++ []) →
@@ -152,31 +162,40 @@ column-drains parts holdup slope liquid vapour ins refusal s a b f g inside e =
     (not-too-fast holdup slope _ _ (passes-test _ refusal e)))
 
 -- what each kind of unit may take
-pub made-takes : (parts : FileParts) (name : List ℕ) (limits : Limits) (outputs : List ℕ) (kind : KindPart) → IsKindPart kind →
+pub made-takes : (parts : FileParts) (name : List ℕ) (limits : Limits) (outputs : List ℕ) (kind : KindPart) →
+    IsKindPart kind →
     AreFound (streams_of parts) (references_of kind) → HaveLimits parts → column_kind_check parts name kind ≡ Ok tt →
     (streams : ℕ → List Interval) → AreInside parts streams →
     MayTake (made_unit name limits (inputs_of (streams_of parts) kind) outputs kind)
     (flat_map streams (inputs_of (streams_of parts) kind))
 unfolding made_unit references_of column_kind_check
-made-takes parts name limits outputs (part.Tank input valve k volume flow conc temp) range found wide checks streams inside =
+made-takes parts name limits outputs (part.Tank input valve k volume flow conc temp) range found wide checks
+    streams inside =
     reads-widest parts streams (references_of (part.Tank input valve k volume flow conc temp)) inside wide found
-made-takes parts name limits outputs (part.Reactor input valve jacket k rate heat ua volume flow conc temp) range found wide
+made-takes parts name limits outputs (part.Reactor input valve jacket k rate heat ua volume flow conc temp)
+    range found wide
     checks streams inside =
-    reads-widest parts streams (references_of (part.Reactor input valve jacket k rate heat ua volume flow conc temp)) inside wide
+    reads-widest parts streams (references_of (part.Reactor input valve jacket k rate heat ua volume flow conc temp))
+    inside wide
     found
 made-takes parts name limits outputs
-    (part.Column liquid vapour stages holdup slope x liquid_flow liquid_temp vapour_flow vapour_temp) range found wide checks
+    (part.Column liquid vapour stages holdup slope x liquid_flow liquid_temp vapour_flow vapour_temp) range
+    found wide checks
     streams inside =
-    let kind : KindPart = part.Column liquid vapour stages holdup slope x liquid_flow liquid_temp vapour_flow vapour_temp in
+    let kind : KindPart =
+    part.Column liquid vapour stages holdup slope x liquid_flow liquid_temp vapour_flow vapour_temp in
     record {
       held = reads-widest parts streams (references_of kind) inside wide found;
       drainable = column-drains parts holdup slope (needs_material (codes "liquid") liquid)
           (needs_material (codes "vapour") vapour) _ _
-          range.5.above refl refl found.0 found.1.0 (reads-inside parts streams (references_of kind) inside found) checks;
+          range.5.above refl refl found.0 found.1.0 (reads-inside parts streams (references_of kind) inside found)
+          checks;
     }
-made-takes parts name limits outputs (part.Controller set measured kp ki bias integral_limits integral out) range found wide
+made-takes parts name limits outputs (part.Controller set measured kp ki bias integral_limits integral out)
+    range found wide
     checks streams inside =
-    reads-widest parts streams (references_of (part.Controller set measured kp ki bias integral_limits integral out)) inside wide
+    reads-widest parts streams (references_of (part.Controller set measured kp ki bias integral_limits integral out))
+    inside wide
     found
 made-takes parts name limits outputs (part.Mixer input) range found wide checks streams inside =
     subst (AllInside (flat_map streams (inputs_of (streams_of parts) (part.Mixer input)))) (mixer-widest 0 input)

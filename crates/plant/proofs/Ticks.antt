@@ -12,7 +12,8 @@ use Rattle.plant_streams.specs.Streams.{streams_of}
 use Rattle.plant_units.specs.Units.{units_of, sheet_unit}
 use Rattle.plant.specs.PlantOf.{origin_in, plant_of}
 use Rattle.plant.proofs.Sources.{by-origin}
-use Rattle.plant.specs.Rows.{RowBands, states_in, stream_in, IsStep, HasStatesOf, HasFeedsOf, HasStreamsOf, states_of_run}
+use Rattle.plant.specs.Rows.{RowBands, states_in, stream_in, IsStep, HasStatesOf, HasFeedsOf, HasStreamsOf}
+use Rattle.plant.specs.Rows.{states_of_run}
 
 -- a unit reads streams that are there
 reads-there : (parts : FileParts) → IsRanked (plant_of parts) → (u q : ℕ) → u < length (units_of parts) →
@@ -38,7 +39,8 @@ module _ (parts : FileParts) (ranked : IsRanked (plant_of parts)) (feeds states 
       let outs : ℕ → List Interval = λ u. inputs_of (unit_at plant u) (streams_below read plant others bands r) in
       by-origin parts (λ o. from_origin read plant feeds states ins o ≡ from_origin read plant others bands outs o) fed
       (λ u p k m. shown-kept (same-kept read) (unit_at plant u) p _ _ _ _ (held u k)
-      (λ i. inputs-kept (same-kept read) (unit_at plant u) _ _ (λ q c. below-same r q (reads-there parts ranked u q k c))))
+      (λ i. inputs-kept (same-kept read) (unit_at plant u) _ _
+      (λ q c. below-same r q (reads-there parts ranked u q k c))))
       s l
 
   -- so are all
@@ -59,15 +61,19 @@ module _ (parts : FileParts) (ranked : IsRanked (plant_of parts)) (feeds states 
       (λ q c. streams-same q (reads-there parts ranked u q l c)))
 
 pub next-streams : (parts : FileParts) (tick : ℕ) (before after : RowBands) → IsRanked (plant_of parts) →
-    HasStatesOf parts tick before → HasFeedsOf parts tick before → IsStep parts before after → HasStreamsOf parts tick after
+    HasStatesOf parts tick before → HasFeedsOf parts tick before → IsStep parts before after →
+    HasStreamsOf parts tick after
 next-streams parts tick before after ranked held fed step s l =
     step.streams s l
-    ∙ streams-same parts ranked (stream_in before) (states_in before) (given_bands parts tick) (states_of_run parts tick) fed
+    ∙ streams-same parts ranked (stream_in before) (states_in before) (given_bands parts tick)
+    (states_of_run parts tick) fed
     held s l
 
 pub next-states : (parts : FileParts) (tick : ℕ) (before after : RowBands) → IsRanked (plant_of parts) →
-    HasStatesOf parts tick before → HasFeedsOf parts tick before → IsStep parts before after → HasStatesOf parts (suc tick) after
+    HasStatesOf parts tick before → HasFeedsOf parts tick before → IsStep parts before after →
+    HasStatesOf parts (suc tick) after
 next-states parts tick before after ranked held fed step u l =
     step.states u l
-    ∙ stepped-same parts ranked (stream_in before) (states_in before) (given_bands parts tick) (states_of_run parts tick) fed
+    ∙ stepped-same parts ranked (stream_in before) (states_in before) (given_bands parts tick)
+    (states_of_run parts tick) fed
     held u l

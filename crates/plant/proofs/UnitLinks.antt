@@ -1,5 +1,6 @@
 -- Units read units that are there.
-use Rattle.std.proofs.Common.{ℕ, List, zero, suc, ◌<◌, length, Contains, subst, arith, [], ◌∷◌, inl, inr, map, slice_index_or}
+use Rattle.std.proofs.Common.{ℕ, List, zero, suc, ◌<◌, length, Contains, subst, arith, [], ◌∷◌, inl, inr, map}
+use Rattle.std.proofs.Common.{slice_index_or}
 use Rattle.std.specs.Prelude.{flat_map}
 use Rattle.std.specs.List.{AllByRecursion}
 use Rattle.std.proofs.lemmas.List.Elements.{Contains-append_cases}
@@ -29,7 +30,8 @@ giver-there parts s v (source.Port u p) h (suc k, l, e) = absurd (omega arith)
 
 givers-there : (parts : FileParts) (reads : List ℕ) (v : ℕ) →
     ((s : ℕ) → s < length (streams_of parts) → IsSource parts s (source_at parts s)) →
-    AllByRecursion (λ s. s < length (streams_of parts)) reads → Contains (givers parts reads) v → v < length (units_of parts)
+    AllByRecursion (λ s. s < length (streams_of parts)) reads → Contains (givers parts reads) v →
+    v < length (units_of parts)
 givers-there parts [] v sources h c = absurd (omega (arith, c.1))
 givers-there parts (s ∷ reads) v sources h c = elim
     (Contains-append_cases (giver_in (source_at parts s)) (givers parts reads) v c) [

@@ -62,13 +62,15 @@ one-judged parts _ _ (passes r s) (deep v q k) =
     absurd (let m : slice_index (ranks_of parts) v ≤ 16 = s v in let n : 16 < slice_index (ranks_of parts) v = k.deep in
     omega arith)
 one-judged parts _ _ (loops u h) (passes q t) = absurd (no_loop (links_of parts) (ranks_of parts) q u h.loops)
-one-judged parts _ _ (loops u h) (loops v k) = ap (λ w. Err (fault.InstantLoop (unit_name parts w))) (one-loop parts u v h k)
+one-judged parts _ _ (loops u h) (loops v k) =
+    ap (λ w. Err (fault.InstantLoop (unit_name parts w))) (one-loop parts u v h k)
 one-judged parts _ _ (loops u h) (deep v q k) = absurd (no_loop (links_of parts) (ranks_of parts) q u h.loops)
 one-judged parts _ _ (deep u r h) (passes q t) =
     absurd (let m : slice_index (ranks_of parts) u ≤ 16 = t u in let n : 16 < slice_index (ranks_of parts) u = h.deep in
     omega arith)
 one-judged parts _ _ (deep u r h) (loops v k) = absurd (no_loop (links_of parts) (ranks_of parts) r v k.loops)
-one-judged parts _ _ (deep u r h) (deep v q k) = ap (λ w. Err (fault.TooDeep (unit_name parts w))) (one-deep parts u v h k)
+one-judged parts _ _ (deep u r h) (deep v q k) =
+    ap (λ w. Err (fault.TooDeep (unit_name parts w))) (one-deep parts u v h k)
 
 one-either : (parts : FileParts) (one other : Checked) → IsEither parts one → IsEither parts other → one ≡ other
 one-either parts one other (inl a) (inl b) = a.2 ∙ sym a.1 ∙ b.1 ∙ sym b.2

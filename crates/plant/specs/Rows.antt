@@ -24,28 +24,32 @@ stream_in row s = slice_index_or row.streams s []
 
 -- the row with another band in one channel of a stream
 abbrev pub set_band : RowBands → ℕ → ℕ → Interval → RowBands
-set_band row s c band = record { states = row.states; streams = slice_set row.streams s (slice_set (stream_in row s) c band) }
+set_band row s c band =
+    record { states = row.states; streams = slice_set row.streams s (slice_set (stream_in row s) c band) }
 
 -- A row of the plant: a band for each state and each channel. The states and the feeds are inside their limits.
 pub record IsRow (parts : FileParts) (row : RowBands) : Type 0 where
   pub counted : length row.states ≡ length (units_of parts)
   pub streams_counted : length row.streams ≡ length (streams_of parts)
   pub channels : (s : ℕ) → s < length (streams_of parts) → length (stream_in row s) ≡ length (limits_at parts s)
-  pub states : (u : ℕ) → u < length (units_of parts) → AllInside (states_in row u) (unit_at (plant_of parts) u).state_limits
+  pub states : (u : ℕ) → u < length (units_of parts) →
+      AllInside (states_in row u) (unit_at (plant_of parts) u).state_limits
   pub feeds : (f : ℕ) → f < length parts.feeds → AllInside (stream_in row f) (limits_at parts f)
 
 -- the row of the opening bands, in which each stream stands at its limits
 abbrev pub opening_row : FileParts → RowBands
 opening_row parts = record { states = map opening_of (units_of parts); streams = all_limits parts }
 
--- One tick of the interval run: each stream at this tick, from the feeds and the states in the row before, and each state at
--- the next tick.
+-- One tick of the interval run: each stream at this tick, from the feeds and the states in the row before, and each
+-- state at the next tick.
 pub record IsStep (parts : FileParts) (before after : RowBands) : Type 0 where
   pub streams : (s : ℕ) → s < length (streams_of parts) →
-      stream_in after s ≡ streams_at (on_bands (plant_of parts)) (plant_of parts) (stream_in before) (states_in before) s
+      stream_in after s ≡ streams_at (on_bands (plant_of parts)) (plant_of parts) (stream_in before)
+      (states_in before) s
   pub states : (u : ℕ) → u < length (units_of parts) →
       states_in after u ≡ stepped (on_bands (plant_of parts)) (unit_at (plant_of parts) u) (states_in before u)
-      (inputs_of (unit_at (plant_of parts) u) (streams_at (on_bands (plant_of parts)) (plant_of parts) (stream_in before) (states_in before)))
+      (inputs_of (unit_at (plant_of parts) u)
+      (streams_at (on_bands (plant_of parts)) (plant_of parts) (stream_in before) (states_in before)))
 
 -- the interval run of the parts: the bands of each unit's states and of each stream at a tick
 abbrev pub states_of_run : FileParts → ℕ → ℕ → List Interval

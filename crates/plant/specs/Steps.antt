@@ -27,26 +27,32 @@ greatest ranks = fold max 0 ranks
 
 -- all streams at this tick, from the feeds among these streams and the states
 abbrev pub run_at : FileParts → List (List Interval) → List (List Interval) → ℕ → List Interval
-run_at parts states streams = streams_at (on_bands (plant_of parts)) (plant_of parts) (bands_at streams) (bands_at states)
+run_at parts states streams =
+    streams_at (on_bands (plant_of parts)) (plant_of parts) (bands_at streams) (bands_at states)
 
 -- what a unit shows at an output, from the states of all units and all streams
 abbrev pub shown_by : FileParts → List (List Interval) → (ℕ → List Interval) → ℕ → ℕ → List Interval
 shown_by parts states streams u p =
-    shown (on_bands (plant_of parts)) (unit_at (plant_of parts) u) p (bands_at states u) (inputs_of (unit_at (plant_of parts) u) streams)
+    shown (on_bands (plant_of parts)) (unit_at (plant_of parts) u) p (bands_at states u)
+    (inputs_of (unit_at (plant_of parts) u) streams)
 
 -- a unit that holds nothing back reads what it might where all streams were inside their limits
 abbrev pub IsReady : FileParts → ℕ → List (List Interval) → Type 0
-IsReady parts n streams = (unit_at (plant_of parts) n).instant ≡ true → ((others : ℕ → List Interval) × AreInside parts others ×
+IsReady parts n streams =
+    (unit_at (plant_of parts) n).instant ≡ true → ((others : ℕ → List Interval) × AreInside parts others ×
     (inputs_of (unit_at (plant_of parts) n) (bands_at streams) ≡ inputs_of (unit_at (plant_of parts) n) others))
 
 -- a stream after unit n has shown itself
-abbrev pub shown_at : FileParts → List (List Interval) → List (List Interval) → ℕ → List Interval → StreamSource → List Interval
+abbrev pub shown_at : FileParts → List (List Interval) → List (List Interval) → ℕ → List Interval →
+    StreamSource → List Interval
 shown_at parts states streams n before (source.Feed f) = before
-shown_at parts states streams n before (source.Port u p) = if u == n then shown_by parts states (bands_at streams) u p else before
+shown_at parts states streams n before (source.Port u p) =
+    if u == n then shown_by parts states (bands_at streams) u p else before
 
 -- Unit n has shown itself in the streams: each has as many channels as before.
 pub record HasShown (parts : FileParts) (n : ℕ) (states before after : List (List Interval)) : Type 0 where
-  pub shown : (s : ℕ) → s < length (streams_of parts) → bands_at after s ≡ shown_at parts states before n (bands_at before s) (source_at parts s)
+  pub shown : (s : ℕ) → s < length (streams_of parts) →
+      bands_at after s ≡ shown_at parts states before n (bands_at before s) (source_at parts s)
   pub widths : (s : ℕ) → length (bands_at after s) ≡ length (bands_at before s)
 
 -- a unit of lesser rank than r, or of rank r and below n
@@ -76,17 +82,20 @@ pub record AreStreams (parts : FileParts) (streams : List (List Interval)) : Typ
 -- so are the states of each unit
 pub record AreStates (parts : FileParts) (states : List (List Interval)) : Type 0 where
   pub counted : length states ≡ length (units_of parts)
-  pub inside : (u : ℕ) → u < length (units_of parts) → AllInside (bands_at states u) (unit_at (plant_of parts) u).state_limits
+  pub inside : (u : ℕ) → u < length (units_of parts) →
+      AllInside (bands_at states u) (unit_at (plant_of parts) u).state_limits
 
 -- what a unit steps to, from its states and all streams
 abbrev pub stepped_by : FileParts → List (List Interval) → ℕ → List Interval → List Interval
 stepped_by parts streams u before =
-    stepped (on_bands (plant_of parts)) (unit_at (plant_of parts) u) before (inputs_of (unit_at (plant_of parts) u) (bands_at streams))
+    stepped (on_bands (plant_of parts)) (unit_at (plant_of parts) u) before
+    (inputs_of (unit_at (plant_of parts) u) (bands_at streams))
 
 -- the units below n have stepped their states
 pub record HaveStepped (parts : FileParts) (n : ℕ) (streams before after : List (List Interval)) : Type 0 where
   pub states : AreStates parts after
-  pub stepped : (u : ℕ) → u < length (units_of parts) → u < n → bands_at after u ≡ stepped_by parts streams u (bands_at before u)
+  pub stepped : (u : ℕ) → u < length (units_of parts) → u < n →
+      bands_at after u ≡ stepped_by parts streams u (bands_at before u)
   pub rest : (u : ℕ) → n ≤ u → bands_at after u ≡ bands_at before u
 
 -- as many streams as the plant has, each with its channels

@@ -29,9 +29,12 @@ pub record IsFirstDeep (parts : FileParts) (u : ℕ) : Type 0 where
 
 -- The parts pass the checks, and then the ranks are judged: whether there are any, and whether one is too great.
 abbrev pub IsVerdict : FileParts → Checked → Type 0
-IsVerdict parts (Ok done) = (checked parts ≡ Ok tt) × AreRanked parts × ((u : ℕ) → slice_index (ranks_of parts) u ≤ most_rank)
-IsVerdict parts (Err (fault.InstantLoop name)) = (checked parts ≡ Ok tt) × ((u : ℕ) × IsFirstLoop (links_of parts) u × (name ≡ unit_name parts u))
-IsVerdict parts (Err (fault.TooDeep name)) = (checked parts ≡ Ok tt) × AreRanked parts × ((u : ℕ) × IsFirstDeep parts u × (name ≡ unit_name parts u))
+IsVerdict parts (Ok done) =
+    (checked parts ≡ Ok tt) × AreRanked parts × ((u : ℕ) → slice_index (ranks_of parts) u ≤ most_rank)
+IsVerdict parts (Err (fault.InstantLoop name)) =
+    (checked parts ≡ Ok tt) × ((u : ℕ) × IsFirstLoop (links_of parts) u × (name ≡ unit_name parts u))
+IsVerdict parts (Err (fault.TooDeep name)) =
+    (checked parts ≡ Ok tt) × AreRanked parts × ((u : ℕ) × IsFirstDeep parts u × (name ≡ unit_name parts u))
 IsVerdict parts (Err refusal) = checked parts ≡ Err refusal
 
 -- what a call answers is the verdict, unless memory ran out
@@ -41,7 +44,8 @@ Builds (Err (unbuilt.Fault refusal)) parts = IsVerdict parts (Err refusal)
 Builds (Err unbuilt.NoMemory) parts = Prim.Unit {0}
 
 -- what a built plant is: parts that are a plant, with their streams, units and ranks
-pub record IsBuilt (parts : FileParts) (made_streams : List Stream) (made_units : List Unit) (made_ranks : List ℕ) : Type 0 where
+pub record IsBuilt (parts : FileParts) (made_streams : List Stream) (made_units : List Unit)
+    (made_ranks : List ℕ) : Type 0 where
   pub plant : IsPlant parts
   pub streams : made_streams ≡ streams_of parts
   pub units : made_units ≡ units_of parts

@@ -1,5 +1,6 @@
 -- Checks that run one after another.
-use Rattle.std.proofs.Common.{◌≡◌, ℕ, ◌+◌, ◌<◌, List, length, get_or, drop, add-one, drop-cons, suc, [], ◌∷◌, map, refl, ap, ◌++◌, codes, append_assoc, Ok, Err}
+use Rattle.std.proofs.Common.{◌≡◌, ℕ, ◌+◌, ◌<◌, List, length, get_or, drop, add-one, drop-cons, suc, [], ◌∷◌, map}
+use Rattle.std.proofs.Common.{refl, ap, ◌++◌, codes, append_assoc, Ok, Err}
 use Rattle.parts.specs.Parts.{FileParts}
 use Rattle.parts.specs.declared.units.KindPart.{KindPart}
 use Rattle.parts.specs.declared.units.KindPart.TheVariants as part
@@ -13,7 +14,8 @@ use Rattle.plant_checks.specs.Groups.{names_checked, references_checked, bands_c
 use Rattle.plant_checks.specs.Seen.{column_kind_seen, column_seen}
 
 -- the check of an item in reach, and then those of the items after it
-pub goes_on : {A : Type 0} (check : ℕ → A → Checked) (items : List A) (i : ℕ) (x : A) → i < length items → x ≡ get_or items i x →
+pub goes_on : {A : Type 0} (check : ℕ → A → Checked) (items : List A) (i : ℕ) (x : A) → i < length items →
+    x ≡ get_or items i x →
     each check i (drop i items) ≡ check i x >> each check (i + 1) (drop (i + 1) items)
 goes_on check items i x within is = rw (add-one, drop-cons items i x, ← is)
 
@@ -23,12 +25,14 @@ ends (unbuilt.Fault refusal) here next refused = rw refused
 ends unbuilt.NoMemory here next _ = tt
 
 -- checks of what items are seen as
-pub each_map : {A B : Type 0} (check : ℕ → B → Checked) (view : A → B) (i : ℕ) (items : List A) → each check i (map view items) ≡ each (λ j x. check j (view x)) i items
+pub each_map : {A B : Type 0} (check : ℕ → B → Checked) (view : A → B) (i : ℕ) (items : List A) →
+    each check i (map view items) ≡ each (λ j x. check j (view x)) i items
 each_map check view i [] = refl
 each_map check view i (x ∷ rest) = ap (λ next. check i (view x) >> next) (each_map check view (suc i) rest)
 
 -- the place of a key with an index
-pub indexed_place : (front key index : List ℕ) → (((front ++ key) ++ codes "[") ++ index) ++ codes "]" ≡ front ++ (((key ++ codes "[") ++ index) ++ codes "]")
+pub indexed_place : (front key index : List ℕ) → (((front ++ key) ++ codes "[") ++ index) ++ codes "]" ≡ front
+    ++ (((key ++ codes "[") ++ index) ++ codes "]")
 indexed_place front key index = simp append_assoc
 
 regrouped : (a b c : Checked) → (a >> b) >> c ≡ a >> (b >> c)
@@ -37,7 +41,8 @@ regrouped (Err refusal) b c = refl
 
 -- the groups one after another are all checks
 pub checked_in_groups : (parts : FileParts) →
-    checked parts ≡ names_checked parts >> (references_checked parts >> (bands_checked parts >> (feeds_checked parts >> units_checked parts)))
+    checked parts ≡ names_checked parts
+    >> (references_checked parts >> (bands_checked parts >> (feeds_checked parts >> units_checked parts)))
 unfolding checked
 checked_in_groups parts = simp regrouped
 
@@ -47,12 +52,14 @@ column_kind_alike : (parts : FileParts) (name : List ℕ) (kind : KindPart) →
 unfolding column_kind_check
 column_kind_alike parts name (part.Tank input valve k volume flow conc temp) = refl
 column_kind_alike parts name (part.Reactor input valve jacket k rate heat ua volume flow conc temp) = refl
-column_kind_alike parts name (part.Column liquid vapour stages holdup slope x liquid_flow liquid_temp vapour_flow vapour_temp) = refl
+column_kind_alike parts name
+    (part.Column liquid vapour stages holdup slope x liquid_flow liquid_temp vapour_flow vapour_temp) = refl
 column_kind_alike parts name (part.Controller set measured kp ki bias integral_limits integral out) = refl
 column_kind_alike parts name (part.Mixer input) = refl
 column_kind_alike parts name (part.Splitter input share) = refl
 
-column_alike : (parts : FileParts) (u : ℕ) (unit : UnitPart) → column_seen parts (streams_of parts) u unit ≡ column_check parts u unit
+column_alike : (parts : FileParts) (u : ℕ) (unit : UnitPart) →
+    column_seen parts (streams_of parts) u unit ≡ column_check parts u unit
 unfolding column_check
 column_alike parts u unit = column_kind_alike parts unit.name unit.kind
 

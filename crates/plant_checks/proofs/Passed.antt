@@ -5,7 +5,9 @@ use Rattle.std.proofs.lemmas.Int.{ints}
 use Rattle.quant.specs.Interval.{Interval, IsInside}
 use Rattle.parts.specs.Parts.{FileParts}
 use Rattle.plant_streams.specs.Streams.{streams_of}
-use Rattle.plant_checks.specs.Checks.{Checked, ◌>>◌, refuse_if, is_outside, begins_below, each, names_of, name_check, source_check, port_check, limits_check, own_limits_check, opening_check, feed_pieces_check, feed_inside_check, column_check, rate_check, checked}
+use Rattle.plant_checks.specs.Checks.{Checked, ◌>>◌, refuse_if, is_outside, begins_below, each, names_of, name_check}
+use Rattle.plant_checks.specs.Checks.{source_check, port_check, limits_check, own_limits_check, opening_check}
+use Rattle.plant_checks.specs.Checks.{feed_pieces_check, feed_inside_check, column_check, rate_check, checked}
 use Rattle.plant_checks.specs.declared.fault.PlantFault.{PlantFault}
 
 -- two checks that pass one after another pass
@@ -33,10 +35,12 @@ passes-test true refusal e = refl
 passes-test false refusal e = absurd cc
 
 -- a band that is not outside its limits is inside
-inside-yes : (band limits : Interval) → (int_le limits.lo band.lo && int_le band.hi limits.hi) ≡ true → IsInside band limits
+inside-yes : (band limits : Interval) → (int_le limits.lo band.lo && int_le band.hi limits.hi) ≡ true →
+    IsInside band limits
 inside-yes band limits e = record { above = grind (arith, ints); below = grind (arith, ints) }
 
-pub passes-inside : (band limits : Interval) (refusal : PlantFault) → refuse_if (is_outside band limits) refusal ≡ Ok tt →
+pub passes-inside : (band limits : Interval) (refusal : PlantFault) →
+    refuse_if (is_outside band limits) refusal ≡ Ok tt →
     IsInside band limits
 passes-inside band limits refusal e = inside-yes band limits (passes-test _ refusal e)
 
@@ -44,7 +48,8 @@ passes-inside band limits refusal e = inside-yes band limits (passes-test _ refu
 begins-yes : (first lo : ℤ) → int_le first lo ≡ true → first ≤ℤ lo
 begins-yes first lo e = grind (arith, ints)
 
-pub passes-begins : (first : ℤ) (band : Interval) (refusal : PlantFault) → refuse_if (begins_below first band) refusal ≡ Ok tt →
+pub passes-begins : (first : ℤ) (band : Interval) (refusal : PlantFault) →
+    refuse_if (begins_below first band) refusal ≡ Ok tt →
     first ≤ℤ band.lo
 passes-begins first band refusal e = begins-yes first band.lo (passes-test _ refusal e)
 

@@ -1,6 +1,8 @@
--- The checks of a plant's parts: they pass, or this is the first refusal. The checks run one after another; within a check
--- feeds come before units, and both in the order of the file.
-use Rattle.std.specs.Prelude.{Result, ⊤, Ok, Err, Bool, if◌then◌else◌, ℕ, suc, List, [], ◌∷◌, ◌≡◌, ◌++◌, codes, decimal, map, take, bytes_eq, Option, Some, None, not, true, false, ℤ, int_le, pos, ◌&&◌, ◌==◌, zero, nat_lt, slice_index_or, int_lt, ◌+ℤ◌, ◌*ℤ◌}
+-- The checks of a plant's parts: they pass, or this is the first refusal. The checks run one after another; within a
+-- check feeds come before units, and both in the order of the file.
+use Rattle.std.specs.Prelude.{Result, ⊤, Ok, Err, Bool, if◌then◌else◌, ℕ, suc, List, [], ◌∷◌, ◌≡◌, ◌++◌, codes}
+use Rattle.std.specs.Prelude.{decimal, map, take, bytes_eq, Option, Some, None, not, true, false, ℤ, int_le, pos}
+use Rattle.std.specs.Prelude.{◌&&◌, ◌==◌, zero, nat_lt, slice_index_or, int_lt, ◌+ℤ◌, ◌*ℤ◌}
 use Rattle.std.specs.List.{list_any}
 use Rattle.quant.specs.Interval.{Interval}
 use Rattle.quant.specs.declared.limits.Limits.{Limits}
@@ -73,18 +75,21 @@ source_refused u reference None = Err (fault.NoSource (unit_place u reference.ke
 source_refused u reference (Some s) = Ok tt
 
 unfoldable pub source_check : List Stream → ℕ → UnitPart → Checked
-source_check streams u unit = each (λ i reference. source_refused u reference (number_of streams reference.name)) 0 (references_of unit.kind)
+source_check streams u unit =
+    each (λ i reference. source_refused u reference (number_of streams reference.name)) 0 (references_of unit.kind)
 
 abbrev pub same_bool : Bool → Bool → Bool
 same_bool true b = b
 same_bool false b = not b
 
 abbrev pub port_refused : ℕ → Reference → Bool → Checked
-port_refused u reference found = refuse_if (not (same_bool found reference.signal)) (fault.WrongPort (unit_place u reference.key))
+port_refused u reference found =
+    refuse_if (not (same_bool found reference.signal)) (fault.WrongPort (unit_place u reference.key))
 
 unfoldable pub port_check : List Stream → ℕ → UnitPart → Checked
 port_check streams u unit =
-    each (λ i reference. port_refused u reference (gives_signal streams (number_of streams reference.name))) 0 (references_of unit.kind)
+    each (λ i reference. port_refused u reference (gives_signal streams (number_of streams reference.name))) 0
+    (references_of unit.kind)
 
 -- a band that begins below a first number
 abbrev pub begins_below : ℤ → Interval → Bool
@@ -111,10 +116,12 @@ is_outside band limits = not (int_le limits.lo band.lo && int_le band.hi limits.
 
 -- each opening band is inside its limits
 abbrev pub opening_refused : ℕ → Opening → Checked
-opening_refused u opening = refuse_if (is_outside opening.band opening.limits) (fault.StartOutside (unit_place u opening.key))
+opening_refused u opening =
+    refuse_if (is_outside opening.band opening.limits) (fault.StartOutside (unit_place u opening.key))
 
 unfoldable pub opening_check : Limits → ℕ → UnitPart → Checked
-opening_check limits u unit = each (λ i opening. opening_refused u opening) 0 (openings_of (limits_in limits unit.limits) unit.kind)
+opening_check limits u unit =
+    each (λ i opening. opening_refused u opening) 0 (openings_of (limits_in limits unit.limits) unit.kind)
 
 -- a feed's channels: the key, the band, and the plant's limit
 pub record Channel : Type 0 where
@@ -127,7 +134,8 @@ channel key band limits = record { key = key; band = band; limits = limits }
 
 unfoldable pub channels_of : Limits → FeedKind → List Channel
 channels_of limits (feed_kind.Material flow conc temp) =
-    channel (codes "flow") flow limits.flow ∷ channel (codes "conc") conc limits.conc ∷ channel (codes "temp") temp limits.temp ∷ []
+    channel (codes "flow") flow limits.flow ∷ channel (codes "conc") conc limits.conc
+    ∷ channel (codes "temp") temp limits.temp ∷ []
 channels_of limits (feed_kind.Signal value) = channel (codes "value") value limits.signal ∷ []
 
 -- the first piece begins at tick 0, and each other one after the one before
@@ -136,7 +144,8 @@ begins_well pieces zero tick = tick == 0
 begins_well pieces (suc i) tick = nat_lt (slice_index_or (map (λ piece. piece.tick) pieces) i 0) tick
 
 abbrev pub piece_refused : ℕ → List ℕ → List Piece → ℕ → Piece → Checked
-piece_refused f key pieces i piece = refuse_if (not (begins_well pieces i piece.tick)) (fault.FeedPieces (piece_place f key i))
+piece_refused f key pieces i piece =
+    refuse_if (not (begins_well pieces i piece.tick)) (fault.FeedPieces (piece_place f key i))
 
 unfoldable pub pieces_check : ℕ → List ℕ → FeedBand → Checked
 pieces_check f key (feed_band.Constant band) = Ok tt
@@ -152,11 +161,13 @@ abbrev pub piece_outside : ℕ → List ℕ → Interval → ℕ → Piece → C
 piece_outside f key limits i piece = refuse_if (is_outside piece.band limits) (fault.FeedOutside (piece_place f key i))
 
 unfoldable pub inside_check : ℕ → List ℕ → Interval → FeedBand → Checked
-inside_check f key limits (feed_band.Constant band) = refuse_if (is_outside band limits) (fault.FeedOutside (feed_place f key))
+inside_check f key limits (feed_band.Constant band) =
+    refuse_if (is_outside band limits) (fault.FeedOutside (feed_place f key))
 inside_check f key limits (feed_band.Pieces pieces) = each (piece_outside f key limits) 0 pieces
 
 unfoldable pub feed_inside_check : Limits → ℕ → FeedPart → Checked
-feed_inside_check limits f feed = each (λ i channel. inside_check f channel.key channel.limits channel.band) 0 (channels_of limits feed.kind)
+feed_inside_check limits f feed =
+    each (λ i channel. inside_check f channel.key channel.limits channel.band) 0 (channels_of limits feed.kind)
 
 -- each temperature of a rate table is above the one before it, and no rate is below the one before it
 abbrev pub rises_well : List (ℤ × ℤ) → ℕ → ℤ × ℤ → Bool
@@ -166,10 +177,12 @@ rises_well points (suc i) point =
     int_lt before.0 point.0 && int_le before.1 point.1
 
 abbrev pub rate_refused : ℕ → List (ℤ × ℤ) → ℕ → ℤ × ℤ → Checked
-rate_refused u points i point = refuse_if (not (rises_well points i point)) (fault.TableFalls (unit_place u (codes "rate[" ++ decimal i ++ codes "]")))
+rate_refused u points i point = refuse_if (not (rises_well points i point))
+    (fault.TableFalls (unit_place u (codes "rate[" ++ decimal i ++ codes "]")))
 
 unfoldable pub rate_kind_check : ℕ → KindPart → Checked
-rate_kind_check u (part.Reactor input valve jacket k rate heat ua volume flow conc temp) = each (rate_refused u rate) 0 rate
+rate_kind_check u (part.Reactor input valve jacket k rate heat ua volume flow conc temp) =
+    each (rate_refused u rate) 0 rate
 rate_kind_check u _ = Ok tt
 
 unfoldable pub rate_check : ℕ → UnitPart → Checked
@@ -185,8 +198,10 @@ abbrev pub is_too_fast : ℤ → ℤ → ℤ → ℤ → Bool
 is_too_fast holdup slope l v = not (int_le (l *ℤ million +ℤ v *ℤ slope) (holdup *ℤ million) && int_le v holdup)
 
 unfoldable pub column_kind_check : FileParts → List ℕ → KindPart → Checked
-column_kind_check parts name (part.Column liquid vapour stages holdup slope x liquid_flow liquid_temp vapour_flow vapour_temp) =
-    refuse_if (is_too_fast holdup slope (greatest_flow parts (number_of (streams_of parts) liquid)) (greatest_flow parts (number_of (streams_of parts) vapour)))
+column_kind_check parts name
+    (part.Column liquid vapour stages holdup slope x liquid_flow liquid_temp vapour_flow vapour_temp) =
+    refuse_if (is_too_fast holdup slope (greatest_flow parts (number_of (streams_of parts) liquid))
+    (greatest_flow parts (number_of (streams_of parts) vapour)))
     (fault.ColumnTooFast name)
 column_kind_check parts name _ = Ok tt
 

@@ -27,10 +27,13 @@ control_of limits integral_limits integral out =
 -- the states of each kind of unit, as the file gives them; the stages of a column open alike
 unfoldable pub openings_of : Limits → KindPart → List Opening
 openings_of limits (part.Tank input valve k volume flow conc temp) = contents_of limits volume flow conc temp
-openings_of limits (part.Reactor input valve jacket k rate heat ua volume flow conc temp) = contents_of limits volume flow conc temp
+openings_of limits (part.Reactor input valve jacket k rate heat ua volume flow conc temp) =
+    contents_of limits volume flow conc temp
 openings_of limits (part.Column liquid vapour stages holdup slope x liquid_flow liquid_temp vapour_flow vapour_temp) =
-    opens (codes "x") x limits.conc ∷ opens (codes "liquid_flow") liquid_flow limits.flow ∷ opens (codes "liquid_temp") liquid_temp limits.temp
+    opens (codes "x") x limits.conc ∷ opens (codes "liquid_flow") liquid_flow limits.flow
+    ∷ opens (codes "liquid_temp") liquid_temp limits.temp
     ∷ opens (codes "vapour_flow") vapour_flow limits.flow ∷ opens (codes "vapour_temp") vapour_temp limits.temp ∷ []
-openings_of limits (part.Controller set measured kp ki bias integral_limits integral out) = control_of limits integral_limits integral out
+openings_of limits (part.Controller set measured kp ki bias integral_limits integral out) =
+    control_of limits integral_limits integral out
 openings_of limits (part.Mixer input) = []
 openings_of limits (part.Splitter input share) = []

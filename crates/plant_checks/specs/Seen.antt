@@ -30,7 +30,8 @@ abbrev pub column_kind_seen : FileParts → List Stream → List ℕ → KindPar
 column_kind_seen parts list name
     (part.Column liquid vapour stages holdup slope x liquid_flow liquid_temp vapour_flow vapour_temp) =
     refuse_if
-    (is_too_fast holdup slope (flow_seen parts list (number_of list liquid)) (flow_seen parts list (number_of list vapour)))
+    (is_too_fast holdup slope (flow_seen parts list (number_of list liquid))
+    (flow_seen parts list (number_of list vapour)))
     (fault.ColumnTooFast name)
 column_kind_seen parts list name _ = Ok tt
 

@@ -4,11 +4,13 @@ use Rattle.plant_streams.specs.declared.streams.Stream.{Stream}
 use Rattle.plant_streams.specs.declared.streams.StreamSource.{StreamSource}
 use Rattle.plant_streams.specs.declared.streams.StreamSource.TheVariants as source
 use Rattle.plant_streams.specs.declared.ports.Port.{Port}
+use Rattle.plant_streams.specs.declared.ports.Port.TheVariants as port
 use Rattle.plant_streams.specs.declared.ports.Reference.{Reference}
 use Rattle.plant_streams.specs.Streams as streams
 
 abbrev pub port_seen : Port → streams.Port
-port_seen port = record { name = port.name.now; signal = port.signal }
+port_seen (port.Material name) = streams.material name.now
+port_seen (port.Signal name) = streams.signal name.now
 
 -- a key, with an index where it has one
 abbrev pub with_index : List ℕ → Option ℕ → List ℕ

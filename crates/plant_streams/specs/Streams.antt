@@ -1,5 +1,6 @@
 -- The streams of a plant: its feeds in the order of the file, and then the outputs of each unit in turn.
-use Rattle.std.specs.Prelude.{ℕ, Bool, false, List, map, Option, Some, None, slice_index_or, true, [], ◌∷◌, codes, suc, ◌++◌, bytes_eq, if◌then◌else◌, decimal}
+use Rattle.std.specs.Prelude.{ℕ, Bool, false, List, map, Option, Some, None, slice_index_or, true, [], ◌∷◌, codes}
+use Rattle.std.specs.Prelude.{suc, ◌++◌, bytes_eq, if◌then◌else◌, decimal}
 use Rattle.parts.specs.declared.units.KindPart.{KindPart}
 use Rattle.parts.specs.declared.units.KindPart.TheVariants as part
 use Rattle.parts.specs.declared.feeds.FeedKind.{FeedKind}
@@ -39,13 +40,15 @@ is_signal (feed_kind.Signal value) = true
 -- the streams of the feeds from number f on
 abbrev pub feed_streams : ℕ → List FeedPart → List Stream
 feed_streams f [] = []
-feed_streams f (feed ∷ rest) = record { name = feed.name; source = source.Feed f; signal = is_signal feed.kind } ∷ feed_streams (suc f) rest
+feed_streams f (feed ∷ rest) =
+    record { name = feed.name; source = source.Feed f; signal = is_signal feed.kind } ∷ feed_streams (suc f) rest
 
 -- the streams of a unit's outputs from number p on
 abbrev pub port_streams : List ℕ → ℕ → ℕ → List Port → List Stream
 port_streams unit u p [] = []
 port_streams unit u p (port ∷ rest) =
-    record { name = unit ++ codes "." ++ port.name; source = source.Port u p; signal = port.signal } ∷ port_streams unit u (suc p) rest
+    record { name = unit ++ codes "." ++ port.name; source = source.Port u p; signal = port.signal }
+    ∷ port_streams unit u (suc p) rest
 
 -- the streams of the units from number u on
 abbrev pub unit_streams : ℕ → List UnitPart → List Stream
@@ -63,7 +66,8 @@ number_from s (stream ∷ rest) name = if bytes_eq stream.name name then Some s 
 abbrev pub number_of : List Stream → List ℕ → Option ℕ
 number_of streams name = number_from 0 streams name
 
--- a reference of a unit: its key, with an index among the inputs of a mixer; what it names; and whether it needs a signal
+-- a reference of a unit: its key, with an index among the inputs of a mixer; what it names; and whether it needs a
+-- signal
 pub record Reference : Type 0 where
   pub key : List ℕ
   pub name : List ℕ
@@ -78,11 +82,13 @@ needs_signal key name = record { key = key; name = name; signal = true }
 -- the inputs of a mixer from number i on
 abbrev pub mixer_references : ℕ → List (List ℕ) → List Reference
 mixer_references i [] = []
-mixer_references i (name ∷ rest) = needs_material (codes "in[" ++ decimal i ++ codes "]") name ∷ mixer_references (suc i) rest
+mixer_references i (name ∷ rest) =
+    needs_material (codes "in[" ++ decimal i ++ codes "]") name ∷ mixer_references (suc i) rest
 
 -- what each kind of unit reads, in the order of its input ports
 unfoldable pub references_of : KindPart → List Reference
-references_of (part.Tank input valve k volume flow conc temp) = needs_material (codes "in") input ∷ needs_signal (codes "valve") valve ∷ []
+references_of (part.Tank input valve k volume flow conc temp) =
+    needs_material (codes "in") input ∷ needs_signal (codes "valve") valve ∷ []
 references_of (part.Reactor input valve jacket k rate heat ua volume flow conc temp) =
     needs_material (codes "in") input ∷ needs_signal (codes "valve") valve ∷ needs_signal (codes "jacket") jacket ∷ []
 references_of (part.Column liquid vapour stages holdup slope x liquid_flow liquid_temp vapour_flow vapour_temp) =

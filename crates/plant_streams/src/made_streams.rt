@@ -55,12 +55,12 @@ fn add_ports(
 {
     for (number, port) in ports.iter().enumerate() {
         streams.push(Stream {
-            name: port_name(alloc, name, port.name)?,
+            name: port_name(alloc, name, port.name())?,
             source: StreamSource::Port {
                 unit,
                 port: number as u32,
             },
-            signal: port.signal,
+            signal: port.is_signal(),
         })?;
     }
     Ok(())

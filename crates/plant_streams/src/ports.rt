@@ -8,52 +8,34 @@ use parts::KindPart;
 use plant_names::Text;
 use std::alloc::{AllocError, Global};
 
-/// An output port.
+/// An output port, by its name: it gives a material stream or a signal.
 #[derive(Clone, Copy, Debug)]
-pub struct Port {
-    pub name: &'static str,
-    pub signal: bool,
+pub enum Port {
+    Material(&'static str),
+    Signal(&'static str),
 }
 
-const OUT: Port = Port {
-    name: "out",
-    signal: false,
-};
+impl Port {
+    ghost use Rattle.std.specs.Prelude.{◌≡◌};
+    ghost use Rattle.plant_streams.specs.Seen.{port_seen};
 
-const LEVEL: Port = Port {
-    name: "level",
-    signal: true,
-};
+    /// Its name.
+    pub fn name(self) -> &'static str
+        ensures { result.now ≡ (port_seen self).name }
+    {
+        match self {
+            Port::Material(name) => name,
+            Port::Signal(name) => name,
+        }
+    }
 
-const TEMP: Port = Port {
-    name: "temp",
-    signal: true,
-};
-
-const LIQUID: Port = Port {
-    name: "liquid",
-    signal: false,
-};
-
-const VAPOUR: Port = Port {
-    name: "vapour",
-    signal: false,
-};
-
-const CONTROL: Port = Port {
-    name: "out",
-    signal: true,
-};
-
-const FIRST: Port = Port {
-    name: "first",
-    signal: false,
-};
-
-const SECOND: Port = Port {
-    name: "second",
-    signal: false,
-};
+    /// Whether it gives a signal.
+    pub fn is_signal(self) -> bool
+        ensures { result ≡ (port_seen self).signal }
+    {
+        matches!(self, Port::Signal(_))
+    }
+}
 
 /// The outputs of a unit of this kind.
 #[tactic(auto, unfolding(crate::specs::Streams::ports_of))]
@@ -62,12 +44,16 @@ pub fn ports_of(kind: &KindPart) -> &'static [Port]
     ensures few { length result.now ≤ 3 }
 {
     match kind {
-        KindPart::Tank { .. } => &[OUT, LEVEL],
-        KindPart::Reactor { .. } => &[OUT, LEVEL, TEMP],
-        KindPart::Column { .. } => &[LIQUID, VAPOUR],
-        KindPart::Controller { .. } => &[CONTROL],
-        KindPart::Mixer { .. } => &[OUT],
-        KindPart::Splitter { .. } => &[FIRST, SECOND],
+        KindPart::Tank { .. } => &[Port::Material("out"), Port::Signal("level")],
+        KindPart::Reactor { .. } => &[
+            Port::Material("out"),
+            Port::Signal("level"),
+            Port::Signal("temp"),
+        ],
+        KindPart::Column { .. } => &[Port::Material("liquid"), Port::Material("vapour")],
+        KindPart::Controller { .. } => &[Port::Signal("out")],
+        KindPart::Mixer { .. } => &[Port::Material("out")],
+        KindPart::Splitter { .. } => &[Port::Material("first"), Port::Material("second")],
     }
 }
 

@@ -1,18 +1,13 @@
 //! What is built of parts, and why some are refused.
-ghost use Rattle.std.specs.Prelude.{◌≤◌, IfOk};
-ghost use Rattle.parts.specs.InRange.{IsUnitPart, AreUnits};
 
-use crate::given::{built, column, mixer, reactor, splitter, tank};
-use parts::UnitPart;
-use plant::{Plant, PlantFault, Unbuilt};
+use crate::given::{is_refused, plant_in};
+use plant::Plant;
+use plant_texts::{
+    COLUMN, LOW_FLOW, MIXER, PAIR, RATES, REACTOR, SPLITTER, TANK, Unit, plant_with, with_splitters,
+};
 use std::alloc::Global;
-use std::test::*;
-
-/// Two tanks in a row, of which the second has this name.
-fn two_tanks(alloc: Global, name: &str) -> Result<Result<Plant, Unbuilt>, Fail> {
-    let units = [tank(alloc, "t1", "f")?, tank(alloc, name, "t1.out")?];
-    built(alloc, Vec::from_array(alloc, units)?)
-}
+use std::process::Abort;
+use std::test::Fail;
 
 const STREAMS: [(&str, bool); 6] = [
     ("f", false),
@@ -26,127 +21,131 @@ const STREAMS: [(&str, bool); 6] = [
 /// The inputs and outputs of each unit.
 const LINKS: [([u32; 2], [u32; 2]); 2] = [([0, 1], [2, 3]), ([2, 1], [4, 5])];
 
-#[test]
-fn two_tanks_in_a_row(rt: HostRuntime) -> Result<(), Fail> {
-    let Ok(plant) = two_tanks(rt.alloc(), "t2")? else {
-        panic!(rt; "refused")
-    };
+/// Steady feeds.
+const STEADY: [(&str, &str); 3] = [
+    LOW_FLOW,
+    ("flow = [10, 12]", "flow = 10"),
+    ("value = 1000000", "value = 500000"),
+];
+
+const T1: Unit = ("t1", TANK, &[]);
+
+/// What a unit behind it reads.
+const BEHIND: &[(&str, &str)] = &[("\"f\"", "\"t1.out\"")];
+
+fn steady(alloc: Global, units: &[Unit]) -> Result<String, Fail> {
+    plant_with(alloc, units, &STEADY)
+}
+
+fn has_streams<R: Abort>(rt: &R, plant: &Plant) {
     assert_eq!(rt; plant.streams().len(), STREAMS.len());
     for (stream, (name, signal)) in plant.streams().iter().zip(&STREAMS) {
         assert_eq!(rt; stream.name.as_bytes(), name.as_bytes());
         assert_eq!(rt; stream.signal, *signal);
     }
+}
+
+fn has_links<R: Abort>(rt: &R, plant: &Plant) {
     assert_eq!(rt; plant.units().len(), LINKS.len());
     for (unit, (inputs, outputs)) in plant.units().iter().zip(&LINKS) {
         assert_eq!(rt; unit.inputs(), inputs.as_slice());
         assert_eq!(rt; unit.outputs(), outputs.as_slice());
     }
-    Ok(())
 }
 
 #[test]
-fn a_name_given_twice(rt: HostRuntime) -> Result<(), Fail> {
-    match two_tanks(rt.alloc(), "t1")? {
-        Err(Unbuilt::Fault(PlantFault::Twice { name })) => {
-            assert_eq!(rt; name.as_bytes(), b"t1".as_slice());
-            Ok(())
-        }
-        _ => Err("the second tank has the name of the first".into()),
-    }
+fn two_tanks_in_a_row(rt: HostRuntime) -> Result<(), Fail> {
+    let text = steady(rt.alloc(), &[T1, ("t2", TANK, BEHIND)])?;
+    let plant = plant_in(rt.alloc(), &text)?;
+    has_streams(&rt, &plant);
+    has_links(&rt, &plant);
+    Ok(())
 }
 
-/// A splitter in a row of them from `s0` on: `s0` reads `f`, and each other one the first output of the one before it.
-fn splitter_at(alloc: Global, number: u32) -> Result<UnitPart, Fail>
-    ensures { IfOk result IsUnitPart }
-{
-    let name = format!(in alloc; "s{number}")?;
-    if number == 0 {
-        return splitter(alloc, &name, "f");
-    }
-    let before = number - 1;
-    let input = format!(in alloc; "s{before}.first")?;
-    splitter(alloc, &name, &input)
-}
-
-/// So many of them.
-fn splitters(alloc: Global, count: u32) -> Result<Vec<UnitPart>, Fail>
-    requires some { 1 ≤ count }
-    requires few { count ≤ 256 }
-    ensures { IfOk result (λ units. AreUnits units.items) }
-{
-    let mut units = Vec::new(alloc);
-    for number in 0..count {
-        units.push(splitter_at(alloc, number)?)?;
-    }
-    Ok(units)
+/// The text of splitters in a row, from `s0` to that of this number.
+fn splitters_to(alloc: Global, last: u32) -> Result<String, Fail> {
+    with_splitters(alloc, steady(alloc, &[])?, 0..=last, "f", 500_000)
 }
 
 #[test]
 fn splitters_have_ranks_by_their_place(rt: HostRuntime) -> Result<(), Fail> {
-    let units = splitters(rt.alloc(), 16)?;
-    let Ok(plant) = built(rt.alloc(), units)? else {
-        panic!(rt; "refused")
-    };
+    let text = splitters_to(rt.alloc(), 15)?;
+    let plant = plant_in(rt.alloc(), &text)?;
     assert!(rt; plant.ranks().iter().copied().eq(1..17));
     Ok(())
 }
 
 #[test]
 fn the_seventeenth_splitter_is_too_deep(rt: HostRuntime) -> Result<(), Fail> {
-    let units = splitters(rt.alloc(), 18)?;
-    match built(rt.alloc(), units)? {
-        Err(Unbuilt::Fault(PlantFault::TooDeep { unit })) => {
-            assert_eq!(rt; unit.as_bytes(), b"s16".as_slice());
-            Ok(())
-        }
-        _ => Err("its rank is 17".into()),
-    }
+    let text = splitters_to(rt.alloc(), 17)?;
+    assert!(rt; is_refused(rt.alloc(), &text, "deep", "s16")?);
+    Ok(())
 }
 
-#[test]
-fn a_mixer_fed_by_its_own_splitter(rt: HostRuntime) -> Result<(), Fail> {
-    let alloc = rt.alloc();
-    let units = [
-        splitter(alloc, "before", "f")?,
-        mixer(alloc, "m", "before.first", "s.second")?,
-        splitter(alloc, "s", "m.out")?,
-    ];
-    match built(alloc, Vec::from_array(alloc, units)?)? {
-        Err(Unbuilt::Fault(PlantFault::InstantLoop { unit })) => {
-            assert_eq!(rt; unit.as_bytes(), b"m".as_slice());
-            Ok(())
-        }
-        _ => Err("the mixer reaches itself".into()),
-    }
-}
+/// A column whose stages hold as little as they may, and one that holds less.
+const SLOW_COLUMN: Unit = (
+    "c",
+    COLUMN,
+    &[(
+        "stages = 8\nholdup = 5000\nslope = 800000\nx = 0",
+        "stages = 2\nholdup = 150\nslope = 500000\nx = 100",
+    )],
+);
+
+const FAST_COLUMN: Unit = (
+    "c",
+    COLUMN,
+    &[(
+        "stages = 8\nholdup = 5000\nslope = 800000\nx = 0",
+        "stages = 2\nholdup = 149\nslope = 500000\nx = 100",
+    )],
+);
 
 #[test]
-fn a_column_that_may_run_dry(rt: HostRuntime) -> Result<(), Fail> {
-    let alloc = rt.alloc();
-    let full = built(alloc, vec![in alloc; column(alloc, 150)?]?)?;
-    let Ok(plant) = full else {
-        panic!(rt; "refused")
-    };
+fn a_column_that_may_not_run_dry(rt: HostRuntime) -> Result<(), Fail> {
+    let text = steady(rt.alloc(), &[SLOW_COLUMN])?;
+    let plant = plant_in(rt.alloc(), &text)?;
     assert!(rt; plant.units().iter().all(|unit| unit.opening().len() == 6));
-    match built(alloc, vec![in alloc; column(alloc, 149)?]?)? {
-        Err(Unbuilt::Fault(PlantFault::ColumnTooFast { unit })) => {
-            assert_eq!(rt; unit.as_bytes(), b"c".as_slice());
-            Ok(())
-        }
-        _ => Err("its stages may run dry".into()),
-    }
+    Ok(())
 }
 
+/// A reactor whose rate stands still, and one whose rate falls.
+const LEVEL_REACTOR: Unit = ("r", REACTOR, &[(RATES, "[[300000, 10], [310000, 10]]")]);
+
+const FALLING_REACTOR: Unit = ("r", REACTOR, &[(RATES, "[[300000, 10], [310000, 9]]")]);
+
 #[test]
-fn a_rate_table_that_falls(rt: HostRuntime) -> Result<(), Fail> {
-    let alloc = rt.alloc();
-    let level = built(alloc, vec![in alloc; reactor(alloc, 10)?]?)?;
-    assert!(rt; level.is_ok());
-    match built(alloc, vec![in alloc; reactor(alloc, 9)?]?)? {
-        Err(Unbuilt::Fault(PlantFault::TableFalls { place })) => {
-            assert_eq!(rt; place.as_bytes(), b"unit[0].rate[1]".as_slice());
-            Ok(())
-        }
-        _ => Err("its rate falls".into()),
+fn a_rate_table_that_stands_still(rt: HostRuntime) -> Result<(), Fail> {
+    let text = steady(rt.alloc(), &[LEVEL_REACTOR])?;
+    plant_in(rt.alloc(), &text)?;
+    Ok(())
+}
+
+/// Units that are refused, with the refusal and its unit or place.
+static REFUSED: [(&[Unit], &str, &str); 4] = [
+    (&[T1, ("t1", TANK, BEHIND)], "twice", "t1"),
+    // a mixer fed by its own splitter
+    (
+        &[
+            ("before", SPLITTER, &[]),
+            ("m", MIXER, &[(PAIR, "\"before.first\", \"s.second\"")]),
+            ("s", SPLITTER, &[("\"f\"", "\"m.out\"")]),
+        ],
+        "loop",
+        "m",
+    ),
+    (&[FAST_COLUMN], "column", "c"),
+    (&[FALLING_REACTOR], "table", "unit[0].rate[1]"),
+];
+
+#[test]
+fn names_what_is_refused(rt: HostRuntime) -> Result<(), Fail> {
+    for (units, refusal, of) in &REFUSED {
+        let text = steady(rt.alloc(), units)?;
+        assert!(rt;
+            is_refused(rt.alloc(), &text, refusal, of)?,
+            "not {refusal} at {of}"
+        );
     }
+    Ok(())
 }

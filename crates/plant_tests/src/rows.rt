@@ -1,33 +1,30 @@
-//! The rows of a worked tank: it holds 1000 mL, lets out 10,000 ppm of them a tick, and takes in 10 to 12 mL at 100 mg/L.
-ghost use Rattle.std.specs.Prelude.{◌<◌, length, IfOk};
+//! The rows of a worked tank: it holds 1000 mL, lets out 10,000 ppm of them a tick, and takes in 10 to 12 mL at
+//! 100 mg/L.
+ghost use Rattle.std.specs.Prelude.{◌<◌, length};
 ghost use Rattle.std.specs.Bool.{OnTrue};
-ghost use Rattle.parts.specs.InRange.{IsUnitPart};
 ghost use Rattle.plant.specs.Rows.{IsRow, stream_in};
 
-use crate::given::{built_from, constant, feeds, tank};
-use parts::{FeedBand, UnitPart};
+use crate::given::plant_in;
 use plant::{Plant, Row};
+use plant_texts::{LOW_FLOW, TANK, Unit, plant_with};
 use quant::Band;
 use std::alloc::Global;
-use std::test::*;
+use std::process::Abort;
+use std::test::Fail;
 
-const INFLOW: Band = Band { lo: 10, hi: 12 };
+/// Fed by `f` and opened by `v`: its plant's streams are these two, the outflow and the level.
+const WORKED_TANK: Unit = ("t", TANK, &[]);
 
-/// The plant of a tank that is fed by `f` and opened by `v`.
-fn plant_of(alloc: Global, unit: UnitPart) -> Result<Plant, Fail>
-    requires { IsUnitPart unit }
-{
-    let flow = FeedBand::Constant { band: INFLOW };
-    let feeds = feeds(alloc, flow, constant(1_000_000))?;
-    match built_from(alloc, feeds, vec![in alloc; unit]?) {
-        Ok(plant) => Ok(plant),
-        Err(_) => Err("refused".into()),
-    }
-}
+/// A tank whose own flow is from 5 to 50 mL a tick.
+const NARROW_TANK: Unit = (
+    "t",
+    TANK,
+    &[("k = 10000\n", "k = 10000\nlimits = { flow = [5, 50] }\n")],
+);
 
-/// The worked tank's plant: its streams are `f`, `v`, the outflow and the level.
-fn worked_tank(alloc: Global) -> Result<Plant, Fail> {
-    plant_of(alloc, tank(alloc, "t", "f")?)
+fn plant_of(alloc: Global, unit: Unit) -> Result<Plant, Fail> {
+    let text = plant_with(alloc, &[unit], &[LOW_FLOW])?;
+    plant_in(alloc, &text)
 }
 
 /// Whether a plant has a stream and a channel of these numbers.
@@ -42,26 +39,37 @@ fn has_channel(plant: &Plant, row: &Row, stream: u32, channel: u32) -> bool
     (channel as usize) < row.stream(stream).len()
 }
 
-/// The ends of the band of a channel.
-fn ends_at(plant: &Plant, row: &Row, stream: u32, channel: u32) -> Result<(i64, i64), Fail>
+/// The band of a channel and its limit.
+fn band_at(plant: &Plant, row: &Row, stream: u32, channel: u32) -> Option<(Band, Band)>
     requires { IsRow plant.now row.now }
 {
     if !has_channel(plant, row, stream, channel) {
-        return Err("no such channel".into());
+        return None;
     }
-    let band = row.at(stream, channel);
-    Ok((band.lo, band.hi))
+    Some((row.at(stream, channel), plant.limit(stream, channel)))
 }
 
-/// The ends of a channel's limit.
-fn limit_at(plant: &Plant, row: &Row, stream: u32, channel: u32) -> Result<(i64, i64), Fail>
+/// The ends that a channel of this stream has to have.
+type Want = (u32, u32, (i64, i64));
+
+/// Compares bands of a row.
+fn have_bands<R: Abort>(rt: &R, plant: &Plant, row: &Row, wants: &[Want])
     requires { IsRow plant.now row.now }
 {
-    if !has_channel(plant, row, stream, channel) {
-        return Err("no such channel".into());
+    for (stream, channel, ends) in wants {
+        let found = band_at(plant, row, *stream, *channel).map(|(band, _)| (band.lo, band.hi));
+        assert_eq!(rt; found, Some(*ends), "at {stream}, {channel}");
     }
-    let limit = plant.limit(stream, channel);
-    Ok((limit.lo, limit.hi))
+}
+
+/// Compares limits of a row's channels.
+fn have_limits<R: Abort>(rt: &R, plant: &Plant, row: &Row, wants: &[Want])
+    requires { IsRow plant.now row.now }
+{
+    for (stream, channel, ends) in wants {
+        let found = band_at(plant, row, *stream, *channel).map(|(_, limit)| (limit.lo, limit.hi));
+        assert_eq!(rt; found, Some(*ends), "at {stream}, {channel}");
+    }
 }
 
 /// Sets a band that is inside the limit of its channel.
@@ -86,69 +94,47 @@ fn set_inside(
     Ok(())
 }
 
-/// The ends of the bands of the outflow's channels and of the level.
-fn shown(plant: &Plant, row: &Row) -> Result<[(i64, i64); 4], Fail>
-    requires { IsRow plant.now row.now }
-{
-    Ok([
-        ends_at(plant, row, 2, 0)?,
-        ends_at(plant, row, 2, 1)?,
-        ends_at(plant, row, 2, 2)?,
-        ends_at(plant, row, 3, 0)?,
-    ])
-}
-
 #[test]
 fn an_opening_row_stands_at_the_limits(rt: HostRuntime) -> Result<(), Fail> {
-    let plant = worked_tank(rt.alloc())?;
+    let plant = plant_of(rt.alloc(), WORKED_TANK)?;
     let row = plant.row(rt.alloc())?;
-    assert_eq!(rt; ends_at(&plant, &row, 0, 0)?, (0, 100));
-    assert_eq!(rt; ends_at(&plant, &row, 2, 1)?, (0, 1_000_000));
-    assert_eq!(rt; ends_at(&plant, &row, 3, 0)?, (0, 2_000_000));
+    let wants = [
+        (0, 0, (0, 100)),
+        (2, 1, (0, 1_000_000)),
+        (3, 0, (0, 2_000_000)),
+    ];
+    have_bands(&rt, &plant, &row, &wants);
     Ok(())
 }
 
 #[test]
 fn a_band_is_set_in_its_place(rt: HostRuntime) -> Result<(), Fail> {
-    let plant = worked_tank(rt.alloc())?;
+    let plant = plant_of(rt.alloc(), WORKED_TANK)?;
     let mut row = plant.row(rt.alloc())?;
     plant.set_given(&mut row, 0);
     set_inside(&plant, &mut row, 0, 1, Band { lo: 90, hi: 95 })?;
-    assert_eq!(rt; ends_at(&plant, &row, 0, 0)?, (10, 12));
-    assert_eq!(rt; ends_at(&plant, &row, 0, 1)?, (90, 95));
-    assert_eq!(rt; ends_at(&plant, &row, 0, 2)?, (300_000, 300_000));
-    assert_eq!(rt; ends_at(&plant, &row, 1, 0)?, (1_000_000, 1_000_000));
+    let wants = [
+        (0, 0, (10, 12)),
+        (0, 1, (90, 95)),
+        (0, 2, (300_000, 300_000)),
+        (1, 0, (1_000_000, 1_000_000)),
+    ];
+    have_bands(&rt, &plant, &row, &wants);
     Ok(())
-}
-
-/// A tank whose own flow is from 5 to 50 mL a tick.
-fn narrow_tank(alloc: Global) -> Result<UnitPart, Fail>
-    ensures { IfOk result IsUnitPart }
-{
-    let mut unit = tank(alloc, "t", "f")?;
-    unit.limits.flow = Some(Band { lo: 5, hi: 50 });
-    Ok(unit)
 }
 
 #[test]
 fn limits_are_the_units_own_before_the_plants(rt: HostRuntime) -> Result<(), Fail> {
-    let plant = plant_of(rt.alloc(), narrow_tank(rt.alloc())?)?;
+    let plant = plant_of(rt.alloc(), NARROW_TANK)?;
     let row = plant.row(rt.alloc())?;
-    assert_eq!(rt; limit_at(&plant, &row, 0, 0)?, (0, 100));
-    assert_eq!(rt; limit_at(&plant, &row, 2, 0)?, (5, 50));
-    assert_eq!(rt; limit_at(&plant, &row, 2, 2)?, (0, 1_000_000));
-    assert_eq!(rt; limit_at(&plant, &row, 3, 0)?, (0, 2_000_000));
+    let wants = [
+        (0, 0, (0, 100)),
+        (2, 0, (5, 50)),
+        (2, 2, (0, 1_000_000)),
+        (3, 0, (0, 2_000_000)),
+    ];
+    have_limits(&rt, &plant, &row, &wants);
     Ok(())
-}
-
-/// Makes the tick of this number, and shows what came of it.
-fn stepped(plant: &Plant, row: &mut Row, tick: u32) -> Result<[(i64, i64); 4], Fail>
-    requires { IsRow plant.now row.old }
-    ensures { IsRow plant.now row.new }
-{
-    plant.set_given(row, tick);
-    plant.direct_step(row);
-    shown(plant, row)
 }
 
 /// The flow, the conc and the temp of the outflow, and the level, tick by tick. From the second tick on, 10 to 12 mL at
@@ -159,12 +145,24 @@ const SHOWN: [[(i64, i64); 4]; 3] = [
     [(10, 10), (1, 2), (300_000, 300_000), (1_000, 1_004)],
 ];
 
+/// Makes the tick of this number, and compares what came of it.
+fn shows_tick<R: Abort>(rt: &R, plant: &Plant, row: &mut Row, tick: u32, want: [(i64, i64); 4])
+    requires { IsRow plant.now row.old }
+    ensures { IsRow plant.now row.new }
+{
+    plant.set_given(row, tick);
+    plant.direct_step(row);
+    let [flow, conc, temp, level] = want;
+    let wants = [(2, 0, flow), (2, 1, conc), (2, 2, temp), (3, 0, level)];
+    have_bands(rt, plant, row, &wants);
+}
+
 #[test]
 fn steps_of_the_worked_tank(rt: HostRuntime) -> Result<(), Fail> {
-    let plant = worked_tank(rt.alloc())?;
+    let plant = plant_of(rt.alloc(), WORKED_TANK)?;
     let mut row = plant.row(rt.alloc())?;
-    assert_eq!(rt; stepped(&plant, &mut row, 0)?, SHOWN[0]);
-    assert_eq!(rt; stepped(&plant, &mut row, 1)?, SHOWN[1]);
-    assert_eq!(rt; stepped(&plant, &mut row, 2)?, SHOWN[2]);
+    shows_tick(&rt, &plant, &mut row, 0, SHOWN[0]);
+    shows_tick(&rt, &plant, &mut row, 1, SHOWN[1]);
+    shows_tick(&rt, &plant, &mut row, 2, SHOWN[2]);
     Ok(())
 }

@@ -1,5 +1,6 @@
 -- What all kinds of units have in common, seen one kind after another.
-use Rattle.std.proofs.Common.{◌≡◌, ℕ, ◌-◌, pos, List, subst, ◌+◌, refl, zero, suc, [], arith, ◌∷◌, sym, ◌*◌, length, ◌≤◌, map, ap, ◌∙◌, ◌<◌, true, true≢false}
+use Rattle.std.proofs.Common.{◌≡◌, ℕ, ◌-◌, pos, List, subst, ◌+◌, refl, zero, suc, [], arith, ◌∷◌, sym, ◌*◌, length}
+use Rattle.std.proofs.Common.{◌≤◌, map, ap, ◌∙◌, ◌<◌, true, true≢false}
 use Rattle.std.specs.Prelude.{slice_index_or, if◌then◌else◌}
 use Rattle.std.proofs.lemmas.List.{length-map, length-append}
 use Rattle.std.proofs.lemmas.List.FromFn.{length-range_with_len}
@@ -20,33 +21,43 @@ use Rattle.column_section.specs.ColumnLaws as column_laws
 use Rattle.controllers.specs.Controller as controllers
 use Rattle.controllers.specs.ControllerLaws as controller_laws
 use Rattle.flowsheet.specs.Reading.{shown}
+use Rattle.flowsheet.specs.Limited.{KeepsLimits}
 use Rattle.plant_units.specs.declared.units.Unit.{Unit}
 use Rattle.plant_units.specs.declared.units.Unit.TheVariants as unit
 use Rattle.plant_units.specs.Units.{sheet_unit, state_limits_of, output_limits_of, IsUnitSound, is_instant, MayTake}
 use Rattle.plant_units.specs.Steps.{steps}
 
 -- what a column reads from its states lies in the limits of its place
-placed : (column : Column) (state : List Interval) (place : ℕ) (A : Interval) → AllInside state (columns.state_limits column) →
-    slice_index_or (columns.state_limits column) place (point (pos 0)) ≡ A → IsInside (slice_index_or state place (point (pos 0))) A
-placed column state place A h e = subst (IsInside (slice_index_or state place (point (pos 0)))) e (place-inside state (columns.state_limits column) place h)
+placed : (column : Column) (state : List Interval) (place : ℕ) (A : Interval) →
+    AllInside state (columns.state_limits column) →
+    slice_index_or (columns.state_limits column) place (point (pos 0)) ≡ A →
+    IsInside (slice_index_or state place (point (pos 0))) A
+placed column state place A h e = subst (IsInside (slice_index_or state place (point (pos 0)))) e
+    (place-inside state (columns.state_limits column) place h)
 
 registered : (column : Column) (state : List Interval) (j : ℕ) → AllInside state (columns.state_limits column) →
-    IsInside (slice_index_or state (column.stages + j) (point (pos 0))) (slice_index_or (columns.register_limits column) j (point (pos 0)))
-registered column state j h = placed column state (column.stages + j) _ h (column_laws.register-limits column j (column.stages + j) refl)
+    IsInside (slice_index_or state (column.stages + j) (point (pos 0)))
+    (slice_index_or (columns.register_limits column) j (point (pos 0)))
+registered column state j h =
+    placed column state (column.stages + j) _ h (column_laws.register-limits column j (column.stages + j) refl)
 
 -- what a unit shows lies in the limits of its outputs
-pub shown-inside : (x : Unit) (p : ℕ) (state ins : List Interval) → IsUnitSound x → AllInside state (state_limits_of x) →
+pub shown-inside : (x : Unit) (p : ℕ) (state ins : List Interval) → IsUnitSound x →
+    AllInside state (state_limits_of x) →
     AllInside (shown (interval Floor) (sheet_unit x) p state ins) (slice_index_or (output_limits_of x) p [])
 unfolding sheet_unit
 shown-inside (unit.Tank name tank inputs outputs opening) zero state ins sound inside =
-    let at : (n : ℕ) → IsInside (slice_index_or state n (point (pos 0))) (slice_index_or (tanks.state_limits tank) n (point (pos 0))) =
+    let at : (n : ℕ) →
+    IsInside (slice_index_or state n (point (pos 0))) (slice_index_or (tanks.state_limits tank) n (point (pos 0))) =
     λ n. place-inside state (tanks.state_limits tank) n inside in
     (at 1, (at 2, (at 3, tt)))
 shown-inside (unit.Tank name tank inputs outputs opening) (suc zero) state ins sound inside =
     (clamped-inside tank.limits.signal _ sound.limits.signal.0, tt)
 shown-inside (unit.Tank name tank inputs outputs opening) (suc (suc p)) state ins sound inside = tt
 shown-inside (unit.Reactor name reactor inputs outputs opening) zero state ins sound inside =
-    let at : (n : ℕ) → IsInside (slice_index_or state n (point (pos 0))) (slice_index_or (reactors.state_limits reactor) n (point (pos 0))) =
+    let at : (n : ℕ) →
+    IsInside (slice_index_or state n (point (pos 0)))
+    (slice_index_or (reactors.state_limits reactor) n (point (pos 0))) =
     λ n. place-inside state (reactors.state_limits reactor) n inside in
     (at 1, (at 2, (at 3, tt)))
 shown-inside (unit.Reactor name reactor inputs outputs opening) (suc zero) state ins sound inside =
@@ -56,37 +67,53 @@ shown-inside (unit.Reactor name reactor inputs outputs opening) (suc (suc zero))
 shown-inside (unit.Reactor name reactor inputs outputs opening) (suc (suc (suc p))) state ins sound inside = tt
 shown-inside (unit.Column name column inputs outputs opening) zero state ins sound inside =
     let last = column_laws.stage-limits column (column.stages - 1) (omega (arith, sound.some)) in (
-      placed column state column.stages column.limits.flow inside (column_laws.register-limits column 0 column.stages (omega arith)),
+      placed column state column.stages column.limits.flow inside
+          (column_laws.register-limits column 0 column.stages (omega arith)),
       (placed column state (column.stages - 1) column.limits.conc inside last, (registered column state 1 inside, tt)),
     )
-shown-inside (unit.Column name column inputs outputs opening) (suc zero) state ins sound inside =
-    (registered column state 2 inside, (clamped-inside column.limits.conc _ sound.limits.conc.0, (registered column state 3 inside, tt)))
+shown-inside (unit.Column name column inputs outputs opening) (suc zero) state ins sound inside = (
+  registered column state 2 inside,
+  (clamped-inside column.limits.conc _ sound.limits.conc.0, (registered column state 3 inside, tt)),
+)
 shown-inside (unit.Column name column inputs outputs opening) (suc (suc p)) state ins sound inside = tt
 shown-inside (unit.Controller name controller inputs outputs opening) zero state ins sound inside =
     (place-inside state (controllers.state_limits controller) 1 inside, tt)
 shown-inside (unit.Controller name controller inputs outputs opening) (suc p) state ins sound inside = tt
 shown-inside (unit.Mixer name mixer inputs outputs opening) zero state ins sound inside = (
   clamped-inside mixer.limits.flow _ sound.limits.flow.0,
-  (clamped-inside mixer.limits.conc _ sound.limits.conc.0, (clamped-inside mixer.limits.temp _ sound.limits.temp.0, tt)),
+  (
+    clamped-inside mixer.limits.conc _ sound.limits.conc.0,
+    (clamped-inside mixer.limits.temp _ sound.limits.temp.0, tt),
+  ),
 )
 shown-inside (unit.Mixer name mixer inputs outputs opening) (suc p) state ins sound inside = tt
 shown-inside (unit.Splitter name splitter inputs outputs opening) zero state ins sound inside = (
   clamped-inside splitter.limits.flow _ sound.limits.flow.0,
-  (clamped-inside splitter.limits.conc _ sound.limits.conc.0, (clamped-inside splitter.limits.temp _ sound.limits.temp.0, tt)),
+  (
+    clamped-inside splitter.limits.conc _ sound.limits.conc.0,
+    (clamped-inside splitter.limits.temp _ sound.limits.temp.0, tt),
+  ),
 )
 shown-inside (unit.Splitter name splitter inputs outputs opening) (suc zero) state ins sound inside = (
   clamped-inside splitter.limits.flow _ sound.limits.flow.0,
-  (clamped-inside splitter.limits.conc _ sound.limits.conc.0, (clamped-inside splitter.limits.temp _ sound.limits.temp.0, tt)),
+  (
+    clamped-inside splitter.limits.conc _ sound.limits.conc.0,
+    (clamped-inside splitter.limits.temp _ sound.limits.temp.0, tt),
+  ),
 )
 shown-inside (unit.Splitter name splitter inputs outputs opening) (suc (suc p)) state ins sound inside = tt
 
 -- what it steps to lies in the limits of its states
-pub steps-inside : (x : Unit) (state ins : List Interval) → IsUnitSound x → AllInside (steps x state ins) (state_limits_of x)
+pub steps-inside : (x : Unit) (state ins : List Interval) → IsUnitSound x →
+    AllInside (steps x state ins) (state_limits_of x)
 unfolding steps
 steps-inside (unit.Tank name tank inputs outputs opening) state ins sound = tank_laws.next-limited tank state ins sound
-steps-inside (unit.Reactor name reactor inputs outputs opening) state ins sound = reactor_laws.next-limited reactor state ins sound
-steps-inside (unit.Column name column inputs outputs opening) state ins sound = column_laws.next-limited column state ins sound
-steps-inside (unit.Controller name controller inputs outputs opening) state ins sound = controller_laws.next-limited controller state ins sound
+steps-inside (unit.Reactor name reactor inputs outputs opening) state ins sound =
+    reactor_laws.next-limited reactor state ins sound
+steps-inside (unit.Column name column inputs outputs opening) state ins sound =
+    column_laws.next-limited column state ins sound
+steps-inside (unit.Controller name controller inputs outputs opening) state ins sound =
+    controller_laws.next-limited controller state ins sound
 steps-inside (unit.Mixer name mixer inputs outputs opening) state ins sound = tt
 steps-inside (unit.Splitter name splitter inputs outputs opening) state ins sound = tt
 
@@ -96,7 +123,8 @@ none_inside [] h = refl
 none_inside (A ∷ As) h = absurd h
 
 -- a unit that holds nothing back has no states
-pub states-read : (x : Unit) (state : List Interval) → AllInside state (state_limits_of x) → (if is_instant x then [] else state) ≡ state
+pub states-read : (x : Unit) (state : List Interval) → AllInside state (state_limits_of x) →
+    (if is_instant x then [] else state) ≡ state
 states-read (unit.Tank name tank inputs outputs opening) state inside = refl
 states-read (unit.Reactor name reactor inputs outputs opening) state inside = refl
 states-read (unit.Column name column inputs outputs opening) state inside = refl
@@ -120,32 +148,57 @@ inside_length As Bs h = sym (inside-length As Bs h)
 pub column_states : (column : Column) → length (columns.state_limits column) ≡ column.stages + 4
 column_states column =
     length-append (map (λ (i : ℕ). column.limits.conc) (columns.stages_of column)) (columns.register_limits column)
-    ∙ ap (λ n. n + 4) (length-map (columns.stages_of column) (λ i. column.limits.conc) ∙ length-range_with_len 0 column.stages)
+    ∙ ap (λ n. n + 4) (length-map (columns.stages_of column) (λ i. column.limits.conc)
+    ∙ length-range_with_len 0 column.stages)
 
 -- where there is a state, there are few inputs
-pub inputs-few : (x : Unit) (state ins : List Interval) → AllInside state (state_limits_of x) → MayTake x ins → 0 < length state → length ins ≤ 6
-inputs-few (unit.Tank name tank inputs outputs opening) state ins inside takes h = omega (arith, inside-length ins tanks.input_limits takes)
-inputs-few (unit.Reactor name reactor inputs outputs opening) state ins inside takes h = omega (arith, inside-length ins reactors.input_limits takes)
-inputs-few (unit.Column name column inputs outputs opening) state ins inside takes h = omega (arith, inside-length ins columns.input_limits takes.held)
-inputs-few (unit.Controller name controller inputs outputs opening) state ins inside takes h = omega (arith, inside-length ins controllers.input_limits takes)
-inputs-few (unit.Mixer name mixer inputs outputs opening) state ins inside takes h = absurd (omega (arith, inside-length state [] inside))
-inputs-few (unit.Splitter name splitter inputs outputs opening) state ins inside takes h = absurd (omega (arith, inside-length state [] inside))
+pub inputs-few : (x : Unit) (state ins : List Interval) → AllInside state (state_limits_of x) → MayTake x ins →
+    0 < length state → length ins ≤ 6
+inputs-few (unit.Tank name tank inputs outputs opening) state ins inside takes h =
+    omega (arith, inside-length ins tanks.input_limits takes)
+inputs-few (unit.Reactor name reactor inputs outputs opening) state ins inside takes h =
+    omega (arith, inside-length ins reactors.input_limits takes)
+inputs-few (unit.Column name column inputs outputs opening) state ins inside takes h =
+    omega (arith, inside-length ins columns.input_limits takes.held)
+inputs-few (unit.Controller name controller inputs outputs opening) state ins inside takes h =
+    omega (arith, inside-length ins controllers.input_limits takes)
+inputs-few (unit.Mixer name mixer inputs outputs opening) state ins inside takes h =
+    absurd (omega (arith, inside-length state [] inside))
+inputs-few (unit.Splitter name splitter inputs outputs opening) state ins inside takes h =
+    absurd (omega (arith, inside-length state [] inside))
 
 none-here : (As : List Interval) → length As ≡ 0 → [] ≡ As
 none-here [] h = refl
 none-here (A ∷ As) h = absurd (omega (arith, h))
 
 -- where there is none, there is none at the next tick
-pub steps-none : (x : Unit) (state ins : List Interval) → IsUnitSound x → AllInside state (state_limits_of x) → length state ≡ 0 → state ≡ steps x state ins
+pub steps-none : (x : Unit) (state ins : List Interval) → IsUnitSound x → AllInside state (state_limits_of x) →
+    length state ≡ 0 → state ≡ steps x state ins
 steps-none x [] ins sound inside h =
-    none-here (steps x [] ins) (omega (arith, inside-length (steps x [] ins) (state_limits_of x) (steps-inside x [] ins sound), inside-length [] (state_limits_of x) inside))
+    none-here (steps x [] ins)
+    (omega (
+      arith,
+      inside-length (steps x [] ins) (state_limits_of x) (steps-inside x [] ins sound),
+      inside-length [] (state_limits_of x) inside,
+    ))
 steps-none x (A ∷ state) ins sound inside h = absurd (omega (arith, h))
 
 -- a unit that holds nothing back has few inputs too
-pub instant-few : (x : Unit) (ins : List Interval) → is_instant x ≡ true → IsUnitSound x → MayTake x ins → length ins ≤ 24
+pub instant-few : (x : Unit) (ins : List Interval) → is_instant x ≡ true → IsUnitSound x → MayTake x ins →
+    length ins ≤ 24
 instant-few (unit.Tank name tank inputs outputs opening) ins i sound takes = absurd (true≢false (sym i))
 instant-few (unit.Reactor name reactor inputs outputs opening) ins i sound takes = absurd (true≢false (sym i))
 instant-few (unit.Column name column inputs outputs opening) ins i sound takes = absurd (true≢false (sym i))
 instant-few (unit.Controller name controller inputs outputs opening) ins i sound takes = absurd (true≢false (sym i))
-instant-few (unit.Mixer name mixer inputs outputs opening) ins i sound takes = mixer-few mixer.inputs ins sound.few takes
-instant-few (unit.Splitter name splitter inputs outputs opening) ins i sound takes = omega (arith, inside-length ins splitters.input_limits takes)
+instant-few (unit.Mixer name mixer inputs outputs opening) ins i sound takes =
+    mixer-few mixer.inputs ins sound.few takes
+instant-few (unit.Splitter name splitter inputs outputs opening) ins i sound takes =
+    omega (arith, inside-length ins splitters.input_limits takes)
+
+-- it keeps its limits
+pub unit-keeps : (x : Unit) → IsUnitSound x → KeepsLimits Floor (sheet_unit x)
+unfolding sheet_unit steps
+unit-keeps x sound = record {
+  next = λ states inputs bands others. steps-inside x states inputs sound;
+  view = λ p states inputs bands others inside. shown-inside x p states inputs sound inside;
+}

@@ -1,3 +1,3 @@
 pub mod AllKinds
+pub mod Making
 pub mod Spreads
-pub mod UnitLimits

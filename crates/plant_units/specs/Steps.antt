@@ -1,12 +1,14 @@
 -- One unit's part of a tick: what it shows, and what it steps to.
-use Rattle.std.specs.Prelude.{ℕ, List, [], slice_index_or, flat_map, ◌∷◌, length, take, drop, slice_set, ◌≤◌, ◌<◌, if◌then◌else◌, ◌≡◌, true}
+use Rattle.std.specs.Prelude.{ℕ, List, [], slice_index_or, flat_map, ◌∷◌, length, take, drop, slice_set, ◌≤◌, ◌<◌}
+use Rattle.std.specs.Prelude.{if◌then◌else◌, ◌≡◌, true}
 use Rattle.std.specs.List.{AllByRecursion}
 use Rattle.quant.specs.Interval.{Interval, AllInside}
 use Rattle.quant.specs.Ports.{outputs}
 use Rattle.quant.specs.Rounding.{Floor}
 use Rattle.quant.specs.Term.{intervals}
 use Rattle.plant_units.specs.declared.units.Unit.{Unit}
-use Rattle.plant_units.specs.Units.{output_limits_of, is_instant, view_of, next_of, reads_of, state_limits_of, IsUnitSound, MayTake, gives_of}
+use Rattle.plant_units.specs.Units.{output_limits_of, is_instant, view_of, next_of, reads_of, state_limits_of}
+use Rattle.plant_units.specs.Units.{IsUnitSound, MayTake, gives_of}
 
 -- the bands in one place of many
 abbrev pub bands_at : List (List Interval) → ℕ → List Interval
@@ -20,14 +22,16 @@ gathered numbers streams = flat_map (bands_at streams) numbers
 abbrev pub spread : List ℕ → List Interval → List (List Interval) → List (List Interval)
 spread [] bands streams = streams
 spread (s ∷ rest) bands streams =
-    spread rest (drop (length (bands_at streams s)) bands) (slice_set streams s (take (length (bands_at streams s)) bands))
+    spread rest (drop (length (bands_at streams s)) bands)
+    (slice_set streams s (take (length (bands_at streams s)) bands))
 
 -- there are such streams, and a band for each of their channels
 abbrev pub HasRoom : List ℕ → List Interval → List (List Interval) → Type 0
 HasRoom [] bands streams = Prim.Unit {0}
 HasRoom (s ∷ rest) bands streams =
     (s < length streams) × (length (bands_at streams s) ≤ length bands)
-    × HasRoom rest (drop (length (bands_at streams s)) bands) (slice_set streams s (take (length (bands_at streams s)) bands))
+    × HasRoom rest (drop (length (bands_at streams s)) bands)
+    (slice_set streams s (take (length (bands_at streams s)) bands))
 
 -- how many channels its outputs have
 abbrev pub width_of : Unit → ℕ
@@ -35,7 +39,8 @@ width_of x = length (outputs (output_limits_of x))
 
 -- what a unit shows, its outputs one after another: from its states, or from its inputs where it holds nothing back
 unfoldable pub views : Unit → List Interval → List Interval → List Interval
-views x state ins = intervals Floor (outputs (view_of x)) (if is_instant x then [] else state) (if is_instant x then ins else [])
+views x state ins =
+    intervals Floor (outputs (view_of x)) (if is_instant x then [] else state) (if is_instant x then ins else [])
 
 -- its states at the next tick
 unfoldable pub steps : Unit → List Interval → List Interval → List Interval

@@ -1,5 +1,6 @@
 -- The units of a plant, with the numbers of their streams, their limits and their opening bands.
-use Rattle.std.specs.Prelude.{◌≤◌, length, ℕ, List, map, unwrap_or, ◌++◌, replicate, ◌+◌, [], ◌∷◌, codes, true, Bool, false}
+use Rattle.std.specs.Prelude.{◌≤◌, length, ℕ, List, map, unwrap_or, ◌++◌, replicate, ◌+◌, [], ◌∷◌, codes, true, Bool}
+use Rattle.std.specs.Prelude.{false}
 use Rattle.std.specs.List.{range_with_len}
 use Rattle.quant.specs.Table.{IsTable}
 use Rattle.quant.specs.declared.limits.Limits.{Limits}
@@ -37,12 +38,15 @@ unfoldable pub made_unit : List ℕ → Limits → List ℕ → List ℕ → Kin
 made_unit name limits inputs outputs (part.Tank input valve k volume flow conc temp) =
     unit.Tank name (record { k = k; limits = limits }) inputs outputs (volume ∷ flow ∷ conc ∷ temp ∷ [])
 made_unit name limits inputs outputs (part.Reactor input valve jacket k rate heat ua volume flow conc temp) =
-    unit.Reactor name (record { k = k; rate = rate; heat = heat; ua = ua; limits = limits }) inputs outputs (volume ∷ flow ∷ conc ∷ temp ∷ [])
-made_unit name limits inputs outputs (part.Column liquid vapour stages holdup slope x liquid_flow liquid_temp vapour_flow vapour_temp) =
+    unit.Reactor name (record { k = k; rate = rate; heat = heat; ua = ua; limits = limits }) inputs outputs
+    (volume ∷ flow ∷ conc ∷ temp ∷ [])
+made_unit name limits inputs outputs
+    (part.Column liquid vapour stages holdup slope x liquid_flow liquid_temp vapour_flow vapour_temp) =
     unit.Column name (record { stages = stages; holdup = holdup; slope = slope; limits = limits }) inputs outputs
     (replicate stages x ++ liquid_flow ∷ liquid_temp ∷ vapour_flow ∷ vapour_temp ∷ [])
 made_unit name limits inputs outputs (part.Controller set measured kp ki bias integral_limits integral out) =
-    unit.Controller name (record { kp = kp; ki = ki; bias = bias; integral_limits = integral_limits; limits = limits }) inputs outputs
+    unit.Controller name
+    (record { kp = kp; ki = ki; bias = bias; integral_limits = integral_limits; limits = limits }) inputs outputs
     (integral ∷ out ∷ [])
 made_unit name limits inputs outputs (part.Mixer input) =
     unit.Mixer name (record { inputs = length input; limits = limits }) inputs outputs []
@@ -57,7 +61,8 @@ unit_from parts first unit_part =
 
 abbrev pub units_from : FileParts → ℕ → List UnitPart → List Unit
 units_from parts first [] = []
-units_from parts first (unit_part ∷ rest) = unit_from parts first unit_part ∷ units_from parts (first + length (ports_of unit_part.kind)) rest
+units_from parts first (unit_part ∷ rest) =
+    unit_from parts first unit_part ∷ units_from parts (first + length (ports_of unit_part.kind)) rest
 
 unfoldable pub units_of : FileParts → List Unit
 units_of parts = units_from parts (length parts.feeds) parts.units

@@ -3,7 +3,6 @@
 ghost use Rattle.std.specs.Prelude.{◌≡◌, ◌≤◌, ◌++◌, length, replicate, unwrap_or, All, IfOk};
 ghost use Rattle.std.specs.List.{range_with_len};
 ghost use Rattle.quant.specs.Table.{IsTable};
-ghost use Rattle.plant_units.specs.declared.units.Unit.TheVariants as made;
 ghost use Rattle.plant_streams.specs.Streams.{number_of, ports_of, streams_of};
 ghost use Rattle.plant_units.specs.Units.{inputs_of, made_unit, unit_from, units_of, IsMakeable};
 ghost use Rattle.plant_units.specs.Seen.{bands_seen};
@@ -137,114 +136,24 @@ struct Ends {
     opening: Bands,
 }
 
-impl Ends {
-    fn tank(self, unit: Tank) -> Unit
-        ensures { result ≡ made.Tank self.name unit self.inputs self.outputs self.opening }
-    {
+/// A unit of a kind, with what each unit has.
+macro_rules! with_ends {
+    ($ends:expr, $kind:ident { $($fields:tt)* }) => {{
+        let unit = $kind { $($fields)* };
         let Ends {
             name,
             inputs,
             outputs,
             opening,
-        } = self;
-        Unit::Tank {
+        } = $ends;
+        Unit::$kind {
             name,
             unit,
             inputs,
             outputs,
             opening,
         }
-    }
-
-    fn reactor(self, unit: Reactor) -> Unit
-        ensures { result ≡ made.Reactor self.name unit self.inputs self.outputs self.opening }
-    {
-        let Ends {
-            name,
-            inputs,
-            outputs,
-            opening,
-        } = self;
-        Unit::Reactor {
-            name,
-            unit,
-            inputs,
-            outputs,
-            opening,
-        }
-    }
-
-    fn column(self, unit: Column) -> Unit
-        ensures { result ≡ made.Column self.name unit self.inputs self.outputs self.opening }
-    {
-        let Ends {
-            name,
-            inputs,
-            outputs,
-            opening,
-        } = self;
-        Unit::Column {
-            name,
-            unit,
-            inputs,
-            outputs,
-            opening,
-        }
-    }
-
-    fn controller(self, unit: Controller) -> Unit
-        ensures { result ≡ made.Controller self.name unit self.inputs self.outputs self.opening }
-    {
-        let Ends {
-            name,
-            inputs,
-            outputs,
-            opening,
-        } = self;
-        Unit::Controller {
-            name,
-            unit,
-            inputs,
-            outputs,
-            opening,
-        }
-    }
-
-    fn mixer(self, unit: Mixer) -> Unit
-        ensures { result ≡ made.Mixer self.name unit self.inputs self.outputs self.opening }
-    {
-        let Ends {
-            name,
-            inputs,
-            outputs,
-            opening,
-        } = self;
-        Unit::Mixer {
-            name,
-            unit,
-            inputs,
-            outputs,
-            opening,
-        }
-    }
-
-    fn splitter(self, unit: Splitter) -> Unit
-        ensures { result ≡ made.Splitter self.name unit self.inputs self.outputs self.opening }
-    {
-        let Ends {
-            name,
-            inputs,
-            outputs,
-            opening,
-        } = self;
-        Unit::Splitter {
-            name,
-            unit,
-            inputs,
-            outputs,
-            opening,
-        }
-    }
+    }};
 }
 
 /// A unit of this kind, with these limits.
@@ -255,52 +164,67 @@ fn made_unit(alloc: Global, ends: Ends, limits: Limits, kind: &KindPart) -> Resu
     ensures { IfOk result (λ unit. unit ≡ made_unit ends.name limits ends.inputs ends.outputs kind.now) }
 {
     Ok(match kind {
-        KindPart::Tank { k, .. } => ends.tank(Tank { k: *k, limits }),
+        KindPart::Tank { k, .. } => with_ends!(ends, Tank { k: *k, limits }),
         KindPart::Reactor {
             k,
             rate,
             heat,
             ua,
             ..
-        } => ends.reactor(Reactor {
-            k: *k,
-            rate: rate_table(alloc, rate.as_slice())?,
-            heat: *heat,
-            ua: *ua,
-            limits,
-        }),
+        } => with_ends!(
+            ends,
+            Reactor {
+                k: *k,
+                rate: rate_table(alloc, rate.as_slice())?,
+                heat: *heat,
+                ua: *ua,
+                limits,
+            }
+        ),
         KindPart::Column {
             stages,
             holdup,
             slope,
             ..
-        } => ends.column(Column {
-            stages: *stages,
-            holdup: *holdup,
-            slope: *slope,
-            limits,
-        }),
+        } => with_ends!(
+            ends,
+            Column {
+                stages: *stages,
+                holdup: *holdup,
+                slope: *slope,
+                limits,
+            }
+        ),
         KindPart::Controller {
             kp,
             ki,
             bias,
             integral_limits,
             ..
-        } => ends.controller(Controller {
-            kp: *kp,
-            ki: *ki,
-            bias: *bias,
-            integral_limits: *integral_limits,
-            limits,
-        }),
-        KindPart::Mixer { input } => ends.mixer(Mixer {
-            inputs: input.as_slice().len() as u32,
-            limits,
-        }),
-        KindPart::Splitter { share, .. } => ends.splitter(Splitter {
-            share: *share,
-            limits,
-        }),
+        } => with_ends!(
+            ends,
+            Controller {
+                kp: *kp,
+                ki: *ki,
+                bias: *bias,
+                integral_limits: *integral_limits,
+                limits,
+            }
+        ),
+        KindPart::Mixer { input } => with_ends!(
+            ends,
+            Mixer {
+                inputs: input.as_slice().len() as u32,
+                limits,
+            }
+        ),
+        KindPart::Splitter { share, .. } => with_ends!(
+            ends,
+            Splitter {
+                share: *share,
+                limits,
+            }
+        ),
     })
 }
 

@@ -21,7 +21,8 @@ pub inside-trans : (A B C : Interval) → IsInside A B → IsInside B C → IsIn
 inside-trans A B C h k = record { above = omega (arith, ints); below = omega (arith, ints) }
 
 -- a number that lies in the limits of its place lies where these do
-pub place-held : (As : List Interval) (zs : List ℤ) (n : ℕ) (B : Interval) → AllHold As zs → IsInside (slice_index_or As n (point (pos 0))) B →
+pub place-held : (As : List Interval) (zs : List ℤ) (n : ℕ) (B : Interval) → AllHold As zs →
+    IsInside (slice_index_or As n (point (pos 0))) B →
     Holds B (slice_index_or zs n (pos 0))
 place-held As zs n B h k = inside-holds _ B _ k (place-holds As zs n h)
 
@@ -42,14 +43,18 @@ inside-length (A ∷ As) (B ∷ Bs) h = ap suc (inside-length As Bs h.1)
 pub given1 : (f : ℤ → ℤ) (u r a : ℤ) → FitsSigned w64 r → r ≡ f u → u ≡ a → to_z w64 (of_z w64 r) ≡ f a
 given1 f u r a h e d = to_z-of_z w64 r h ∙ (e ∙ ap f d)
 
-pub given2 : (f : ℤ → ℤ → ℤ) (u v r a b : ℤ) → FitsSigned w64 r → r ≡ f u v → u ≡ a → v ≡ b → to_z w64 (of_z w64 r) ≡ f a b
+pub given2 : (f : ℤ → ℤ → ℤ) (u v r a b : ℤ) → FitsSigned w64 r → r ≡ f u v → u ≡ a → v ≡ b →
+    to_z w64 (of_z w64 r) ≡ f a b
 given2 f u v r a b h e d g = given1 (f u) v r b h e g ∙ ap (λ (t : ℤ). f t b) d
 
-pub given4 : (f : ℤ → ℤ → ℤ → ℤ → ℤ) (u v w x r a b c d : ℤ) → FitsSigned w64 r → r ≡ f u v w x → u ≡ a → v ≡ b → w ≡ c → x ≡ d →
+pub given4 : (f : ℤ → ℤ → ℤ → ℤ → ℤ) (u v w x r a b c d : ℤ) → FitsSigned w64 r → r ≡ f u v w x → u ≡ a → v ≡ b →
+    w ≡ c → x ≡ d →
     to_z w64 (of_z w64 r) ≡ f a b c d
-given4 f u v w x r a b c d h e i j k l = given2 (f u v) w x r c d h e k l ∙ (ap (λ (t : ℤ). f u t c d) j ∙ ap (λ (t : ℤ). f t b c d) i)
+given4 f u v w x r a b c d h e i j k l = given2 (f u v) w x r c d h e k l ∙
+    (ap (λ (t : ℤ). f u t c d) j ∙ ap (λ (t : ℤ). f t b c d) i)
 
-pub given7 : (f : ℤ → ℤ → ℤ → ℤ → ℤ → ℤ → ℤ → ℤ) (u v w x y z t r a b c d e g i : ℤ) → FitsSigned w64 r → r ≡ f u v w x y z t →
+pub given7 : (f : ℤ → ℤ → ℤ → ℤ → ℤ → ℤ → ℤ → ℤ) (u v w x y z t r a b c d e g i : ℤ) → FitsSigned w64 r →
+    r ≡ f u v w x y z t →
     u ≡ a → v ≡ b → w ≡ c → x ≡ d → y ≡ e → z ≡ g → t ≡ i → to_z w64 (of_z w64 r) ≡ f a b c d e g i
 given7 f u v w x y z t r a b c d e g i h q j k l m n o p =
     given4 (f u v w) x y z t r d e g i h q m n o p
@@ -59,15 +64,19 @@ given7 f u v w x y z t r a b c d e g i h q j k l m n o p =
 pub hulled2 : (f : Interval → Interval → Interval) (U V R A B : Interval) → R ≡ f U V → U ≡ A → V ≡ B → R ≡ f A B
 hulled2 f U V R A B e d g = e ∙ (ap (f U) g ∙ ap (λ (t : Interval). f t B) d)
 
-pub hulled4 : (f : Interval → Interval → Interval → Interval → Interval) (U V W X R A B C D : Interval) → R ≡ f U V W X → U ≡ A → V ≡ B → W ≡ C → X ≡ D →
+pub hulled4 : (f : Interval → Interval → Interval → Interval → Interval) (U V W X R A B C D : Interval) →
+    R ≡ f U V W X → U ≡ A → V ≡ B → W ≡ C → X ≡ D →
     R ≡ f A B C D
-hulled4 f U V W X R A B C D e i j k l = hulled2 (f U V) W X R C D e k l ∙ (ap (λ (t : Interval). f U t C D) j ∙ ap (λ (t : Interval). f t B C D) i)
+hulled4 f U V W X R A B C D e i j k l = hulled2 (f U V) W X R C D e k l ∙
+    (ap (λ (t : Interval). f U t C D) j ∙ ap (λ (t : Interval). f t B C D) i)
 
 -- what is read from a row of bands
-pub read : (As : List Interval) (n : ℕ) (r : Interval) → n < length As → r ≡ get_or As n r → r ≡ slice_index_or As n (point (pos 0))
+pub read : (As : List Interval) (n : ℕ) (r : Interval) → n < length As → r ≡ get_or As n r →
+    r ≡ slice_index_or As n (point (pos 0))
 read As n r h e = e ∙ get_or_default As n r (point (pos 0)) h
 
-pub read-inside : (As : List Interval) (n : ℕ) (r B : Interval) → n < length As → r ≡ get_or As n r → IsInside (slice_index_or As n (point (pos 0))) B → IsInside r B
+pub read-inside : (As : List Interval) (n : ℕ) (r B : Interval) → n < length As → r ≡ get_or As n r →
+    IsInside (slice_index_or As n (point (pos 0))) B → IsInside r B
 read-inside As n r B h e k = subst (λ (R : Interval). IsInside R B) (sym (read As n r h e)) k
 
 -- a row that is written from its head to its end

@@ -26,7 +26,8 @@ pub max_is_one : (a b : ℤ) → (int_max a b ≡ a) ⊎ (int_max a b ≡ b)
 max_is_one a b = grind (arith, ints, clamps)
 
 -- what lies between two numbers lies between any intervals round these
-pub join-holds : (P Q : Interval) (x y z : ℤ) → Holds P x → Holds Q y → Holds (join (point x) (point y)) z → Holds (join P Q) z
+pub join-holds : (P Q : Interval) (x y z : ℤ) → Holds P x → Holds Q y → Holds (join (point x) (point y)) z →
+    Holds (join P Q) z
 join-holds P Q x y z p q h = record { above = omega (arith, ints, clamps); below = omega (arith, ints, clamps) }
 
 -- an interval joined with itself is itself
@@ -78,13 +79,15 @@ pub record IsBetween (V : ℤ → ℤ → Type 0) (x y z : ℤ) : Type 0 where
 
 -- one more argument: the hull over it joins the hulls at its ends, where values at middle numbers lie between values at the ends
 pub hull-step : (V : ℤ → ℤ → Type 0) (R : ℤ → Interval) (A : Interval) → IsBand A → ((a : ℤ) → IsHull (V a) (R a)) →
-    ((b z : ℤ) → A.lo ≤ℤ b → b ≤ℤ A.hi → V b z → IsBetween V A.lo A.hi z) → IsHull (IsValueOver V A) (join (R A.lo) (R A.hi))
+    ((b z : ℤ) → A.lo ≤ℤ b → b ≤ℤ A.hi → V b z → IsBetween V A.lo A.hi z) →
+    IsHull (IsValueOver V A) (join (R A.lo) (R A.hi))
 hull-step V R A a r m =
     let first : Holds A A.lo = record { above = omega (arith, ints); below = a.ordered } in
     let last : Holds A A.hi = record { above = a.ordered; below = omega (arith, ints) } in
     record {
       holds = λ z v. let w = m v.0 z v.1.above v.1.below v.2 in
-          join-holds (R A.lo) (R A.hi) w.left w.right z ((r A.lo).holds w.left w.at_left) ((r A.hi).holds w.right w.at_right) w.between;
+          join-holds (R A.lo) (R A.hi) w.left w.right z ((r A.lo).holds w.left w.at_left)
+          ((r A.hi).holds w.right w.at_right) w.between;
       low = low_of (IsValueOver V A) (R A.lo).lo (R A.hi).lo (A.lo, first, (r A.lo).low) (A.hi, last, (r A.hi).low);
       high = high_of (IsValueOver V A) (R A.lo).hi (R A.hi).hi (A.lo, first, (r A.lo).high) (A.hi, last, (r A.hi).high);
     }
@@ -104,8 +107,10 @@ hull1-exact f A a m = hull-step (λ x z. f x ≡ z) (λ x. point (f x)) A a (λ 
       between = subst (λ w. Holds (join (point (f A.lo)) (point (f A.hi))) w) v (m A.lo b A.hi h k);
     })
 
-pub hull2-exact : (f : ℤ → ℤ → ℤ) (A B : Interval) → IsBand A → IsBand B → IsMonotone2 f → IsHull (IsValue2 f A B) (hull2 f A B)
-hull2-exact f A B a b m = hull-step (λ x z. IsValue1 (f x) B z) (λ x. hull1 (f x) B) A a (λ x. hull1-exact (f x) B b (m.1 x))
+pub hull2-exact : (f : ℤ → ℤ → ℤ) (A B : Interval) → IsBand A → IsBand B → IsMonotone2 f →
+    IsHull (IsValue2 f A B) (hull2 f A B)
+hull2-exact f A B a b m = hull-step (λ x z. IsValue1 (f x) B z) (λ x. hull1 (f x) B) A a
+    (λ x. hull1-exact (f x) B b (m.1 x))
     (λ x z h k v. record {
       left = f A.lo v.0;
       right = f A.hi v.0;
@@ -114,38 +119,47 @@ hull2-exact f A B a b m = hull-step (λ x z. IsValue1 (f x) B z) (λ x. hull1 (f
       between = subst (λ w. Holds (join (point (f A.lo v.0)) (point (f A.hi v.0))) w) v.2 (m.0 v.0 A.lo x A.hi h k);
     })
 
-pub hull3-exact : (f : ℤ → ℤ → ℤ → ℤ) (A B C : Interval) → IsBand A → IsBand B → IsBand C → IsMonotone3 f → IsHull (IsValue3 f A B C) (hull3 f A B C)
-hull3-exact f A B C a b c m = hull-step (λ x z. IsValue2 (f x) B C z) (λ x. hull2 (f x) B C) A a (λ x. hull2-exact (f x) B C b c (m.1 x))
+pub hull3-exact : (f : ℤ → ℤ → ℤ → ℤ) (A B C : Interval) → IsBand A → IsBand B → IsBand C → IsMonotone3 f →
+    IsHull (IsValue3 f A B C) (hull3 f A B C)
+hull3-exact f A B C a b c m = hull-step (λ x z. IsValue2 (f x) B C z) (λ x. hull2 (f x) B C) A a
+    (λ x. hull2-exact (f x) B C b c (m.1 x))
     (λ x z h k v. let w = v.2 in
     record {
       left = f A.lo v.0 w.0;
       right = f A.hi v.0 w.0;
       at_left = (v.0, v.1, (w.0, w.1, refl));
       at_right = (v.0, v.1, (w.0, w.1, refl));
-      between = subst (λ y. Holds (join (point (f A.lo v.0 w.0)) (point (f A.hi v.0 w.0))) y) w.2 (m.0 v.0 w.0 A.lo x A.hi h k);
+      between = subst (λ y. Holds (join (point (f A.lo v.0 w.0)) (point (f A.hi v.0 w.0))) y) w.2
+          (m.0 v.0 w.0 A.lo x A.hi h k);
     })
 
-pub hull4-exact : (f : ℤ → ℤ → ℤ → ℤ → ℤ) (A B C D : Interval) → IsBand A → IsBand B → IsBand C → IsBand D → IsMonotone4 f → IsHull (IsValue4 f A B C D) (hull4 f A B C D)
-hull4-exact f A B C D a b c d m = hull-step (λ x z. IsValue3 (f x) B C D z) (λ x. hull3 (f x) B C D) A a (λ x. hull3-exact (f x) B C D b c d (m.1 x))
+pub hull4-exact : (f : ℤ → ℤ → ℤ → ℤ → ℤ) (A B C D : Interval) → IsBand A → IsBand B → IsBand C → IsBand D →
+    IsMonotone4 f → IsHull (IsValue4 f A B C D) (hull4 f A B C D)
+hull4-exact f A B C D a b c d m = hull-step (λ x z. IsValue3 (f x) B C D z) (λ x. hull3 (f x) B C D) A a
+    (λ x. hull3-exact (f x) B C D b c d (m.1 x))
     (λ x z h k v. let w = v.2 in let u = w.2 in
     record {
       left = f A.lo v.0 w.0 u.0;
       right = f A.hi v.0 w.0 u.0;
       at_left = (v.0, v.1, (w.0, w.1, (u.0, u.1, refl)));
       at_right = (v.0, v.1, (w.0, w.1, (u.0, u.1, refl)));
-      between = subst (λ y. Holds (join (point (f A.lo v.0 w.0 u.0)) (point (f A.hi v.0 w.0 u.0))) y) u.2 (m.0 v.0 w.0 u.0 A.lo x A.hi h k);
+      between = subst (λ y. Holds (join (point (f A.lo v.0 w.0 u.0)) (point (f A.hi v.0 w.0 u.0))) y) u.2
+          (m.0 v.0 w.0 u.0 A.lo x A.hi h k);
     })
 
-pub hull5-exact : (f : ℤ → ℤ → ℤ → ℤ → ℤ → ℤ) (A B C D E : Interval) → IsBand A → IsBand B → IsBand C → IsBand D → IsBand E → IsMonotone5 f →
+pub hull5-exact : (f : ℤ → ℤ → ℤ → ℤ → ℤ → ℤ) (A B C D E : Interval) → IsBand A → IsBand B → IsBand C → IsBand D →
+    IsBand E → IsMonotone5 f →
     IsHull (IsValue5 f A B C D E) (hull5 f A B C D E)
-hull5-exact f A B C D E a b c d e m = hull-step (λ x z. IsValue4 (f x) B C D E z) (λ x. hull4 (f x) B C D E) A a (λ x. hull4-exact (f x) B C D E b c d e (m.1 x))
+hull5-exact f A B C D E a b c d e m = hull-step (λ x z. IsValue4 (f x) B C D E z) (λ x. hull4 (f x) B C D E) A a
+    (λ x. hull4-exact (f x) B C D E b c d e (m.1 x))
     (λ x z h k v. let w = v.2 in let u = w.2 in let t = u.2 in
     record {
       left = f A.lo v.0 w.0 u.0 t.0;
       right = f A.hi v.0 w.0 u.0 t.0;
       at_left = (v.0, v.1, (w.0, w.1, (u.0, u.1, (t.0, t.1, refl))));
       at_right = (v.0, v.1, (w.0, w.1, (u.0, u.1, (t.0, t.1, refl))));
-      between = subst (λ y. Holds (join (point (f A.lo v.0 w.0 u.0 t.0)) (point (f A.hi v.0 w.0 u.0 t.0))) y) t.2 (m.0 v.0 w.0 u.0 t.0 A.lo x A.hi h k);
+      between = subst (λ y. Holds (join (point (f A.lo v.0 w.0 u.0 t.0)) (point (f A.hi v.0 w.0 u.0 t.0))) y) t.2
+          (m.0 v.0 w.0 u.0 t.0 A.lo x A.hi h k);
     })
 
 -- a band that holds a number has a number in it
@@ -164,23 +178,30 @@ inside-band A B i a = record { ordered = omega (arith, ints) }
 pub hull1-holds : (f : ℤ → ℤ) (A : Interval) (x : ℤ) → IsMonotone1 f → Holds A x → Holds (hull1 f A) (f x)
 hull1-holds f A x m h = (hull1-exact f A (holds-band A x h) m).holds (f x) (x, h, refl)
 
-pub hull2-holds : (f : ℤ → ℤ → ℤ) (A B : Interval) (x y : ℤ) → IsMonotone2 f → Holds A x → Holds B y → Holds (hull2 f A B) (f x y)
-hull2-holds f A B x y m h k = (hull2-exact f A B (holds-band A x h) (holds-band B y k) m).holds (f x y) (x, h, (y, k, refl))
+pub hull2-holds : (f : ℤ → ℤ → ℤ) (A B : Interval) (x y : ℤ) → IsMonotone2 f → Holds A x → Holds B y →
+    Holds (hull2 f A B) (f x y)
+hull2-holds f A B x y m h k = (hull2-exact f A B (holds-band A x h) (holds-band B y k) m).holds (f x y)
+    (x, h, (y, k, refl))
 
-pub hull3-holds : (f : ℤ → ℤ → ℤ → ℤ) (A B C : Interval) (x y z : ℤ) → IsMonotone3 f → Holds A x → Holds B y → Holds C z →
+pub hull3-holds : (f : ℤ → ℤ → ℤ → ℤ) (A B C : Interval) (x y z : ℤ) → IsMonotone3 f → Holds A x → Holds B y →
+    Holds C z →
     Holds (hull3 f A B C) (f x y z)
 hull3-holds f A B C x y z m h k l =
-    (hull3-exact f A B C (holds-band A x h) (holds-band B y k) (holds-band C z l) m).holds (f x y z) (x, h, (y, k, (z, l, refl)))
+    (hull3-exact f A B C (holds-band A x h) (holds-band B y k) (holds-band C z l) m).holds (f x y z)
+    (x, h, (y, k, (z, l, refl)))
 
-pub hull4-holds : (f : ℤ → ℤ → ℤ → ℤ → ℤ) (A B C D : Interval) (x y z w : ℤ) → IsMonotone4 f → Holds A x → Holds B y → Holds C z → Holds D w →
+pub hull4-holds : (f : ℤ → ℤ → ℤ → ℤ → ℤ) (A B C D : Interval) (x y z w : ℤ) → IsMonotone4 f → Holds A x → Holds B y →
+    Holds C z → Holds D w →
     Holds (hull4 f A B C D) (f x y z w)
 hull4-holds f A B C D x y z w m h k l n =
-    (hull4-exact f A B C D (holds-band A x h) (holds-band B y k) (holds-band C z l) (holds-band D w n) m).holds (f x y z w) (x, h, (y, k, (z, l, (w, n, refl))))
+    (hull4-exact f A B C D (holds-band A x h) (holds-band B y k) (holds-band C z l) (holds-band D w n) m).holds
+    (f x y z w) (x, h, (y, k, (z, l, (w, n, refl))))
 
 pub hull5-holds : (f : ℤ → ℤ → ℤ → ℤ → ℤ → ℤ) (A B C D E : Interval) (x y z w u : ℤ) → IsMonotone5 f →
     Holds A x → Holds B y → Holds C z → Holds D w → Holds E u → Holds (hull5 f A B C D E) (f x y z w u)
 hull5-holds f A B C D E x y z w u m h k l n o =
-    (hull5-exact f A B C D E (holds-band A x h) (holds-band B y k) (holds-band C z l) (holds-band D w n) (holds-band E u o) m).holds
+    (hull5-exact f A B C D E (holds-band A x h) (holds-band B y k) (holds-band C z l) (holds-band D w n)
+    (holds-band E u o) m).holds
     (f x y z w u) (x, h, (y, k, (z, l, (w, n, (u, o, refl)))))
 
 -- the hull over bands has a number in it
@@ -190,22 +211,28 @@ hull1-band f A m a = hull-band (IsValue1 f A) (hull1 f A) (hull1-exact f A a m)
 pub hull2-band : (f : ℤ → ℤ → ℤ) (A B : Interval) → IsMonotone2 f → IsBand A → IsBand B → IsBand (hull2 f A B)
 hull2-band f A B m a b = hull-band (IsValue2 f A B) (hull2 f A B) (hull2-exact f A B a b m)
 
-pub hull3-band : (f : ℤ → ℤ → ℤ → ℤ) (A B C : Interval) → IsMonotone3 f → IsBand A → IsBand B → IsBand C → IsBand (hull3 f A B C)
+pub hull3-band : (f : ℤ → ℤ → ℤ → ℤ) (A B C : Interval) → IsMonotone3 f → IsBand A → IsBand B → IsBand C →
+    IsBand (hull3 f A B C)
 hull3-band f A B C m a b c = hull-band (IsValue3 f A B C) (hull3 f A B C) (hull3-exact f A B C a b c m)
 
-pub hull4-band : (f : ℤ → ℤ → ℤ → ℤ → ℤ) (A B C D : Interval) → IsMonotone4 f → IsBand A → IsBand B → IsBand C → IsBand D → IsBand (hull4 f A B C D)
+pub hull4-band : (f : ℤ → ℤ → ℤ → ℤ → ℤ) (A B C D : Interval) → IsMonotone4 f → IsBand A → IsBand B → IsBand C →
+    IsBand D → IsBand (hull4 f A B C D)
 hull4-band f A B C D m a b c d = hull-band (IsValue4 f A B C D) (hull4 f A B C D) (hull4-exact f A B C D a b c d m)
 
-pub hull5-band : (f : ℤ → ℤ → ℤ → ℤ → ℤ → ℤ) (A B C D E : Interval) → IsMonotone5 f → IsBand A → IsBand B → IsBand C → IsBand D → IsBand E →
+pub hull5-band : (f : ℤ → ℤ → ℤ → ℤ → ℤ → ℤ) (A B C D E : Interval) → IsMonotone5 f → IsBand A → IsBand B → IsBand C →
+    IsBand D → IsBand E →
     IsBand (hull5 f A B C D E)
-hull5-band f A B C D E m a b c d e = hull-band (IsValue5 f A B C D E) (hull5 f A B C D E) (hull5-exact f A B C D E a b c d e m)
+hull5-band f A B C D E m a b c d e = hull-band (IsValue5 f A B C D E) (hull5 f A B C D E)
+    (hull5-exact f A B C D E a b c d e m)
 
 -- the hull over narrower bands is narrower
-pub hull1-inside : (f : ℤ → ℤ) (A P : Interval) → IsMonotone1 f → IsBand A → IsInside A P → IsInside (hull1 f A) (hull1 f P)
+pub hull1-inside : (f : ℤ → ℤ) (A P : Interval) → IsMonotone1 f → IsBand A → IsInside A P →
+    IsInside (hull1 f A) (hull1 f P)
 hull1-inside f A P m a i = hull-inside (IsValue1 f A) (hull1 f A) (hull1 f P) (hull1-exact f A a m)
     (λ z v. subst (Holds (hull1 f P)) v.2 (hull1-holds f P v.0 m (inside-holds A P v.0 i v.1)))
 
-pub hull2-inside : (f : ℤ → ℤ → ℤ) (A B P Q : Interval) → IsMonotone2 f → IsBand A → IsBand B → IsInside A P → IsInside B Q →
+pub hull2-inside : (f : ℤ → ℤ → ℤ) (A B P Q : Interval) → IsMonotone2 f → IsBand A → IsBand B → IsInside A P →
+    IsInside B Q →
     IsInside (hull2 f A B) (hull2 f P Q)
 hull2-inside f A B P Q m a b i j = hull-inside (IsValue2 f A B) (hull2 f A B) (hull2 f P Q) (hull2-exact f A B a b m)
     (λ z v. let w = v.2 in subst (Holds (hull2 f P Q)) w.2
@@ -213,23 +240,31 @@ hull2-inside f A B P Q m a b i j = hull-inside (IsValue2 f A B) (hull2 f A B) (h
 
 pub hull3-inside : (f : ℤ → ℤ → ℤ → ℤ) (A B C P Q R : Interval) → IsMonotone3 f → IsBand A → IsBand B → IsBand C →
     IsInside A P → IsInside B Q → IsInside C R → IsInside (hull3 f A B C) (hull3 f P Q R)
-hull3-inside f A B C P Q R m a b c i j k = hull-inside (IsValue3 f A B C) (hull3 f A B C) (hull3 f P Q R) (hull3-exact f A B C a b c m)
+hull3-inside f A B C P Q R m a b c i j k = hull-inside (IsValue3 f A B C) (hull3 f A B C) (hull3 f P Q R)
+    (hull3-exact f A B C a b c m)
     (λ z v. let w = v.2 in let u = w.2 in subst (Holds (hull3 f P Q R)) u.2
-    (hull3-holds f P Q R v.0 w.0 u.0 m (inside-holds A P v.0 i v.1) (inside-holds B Q w.0 j w.1) (inside-holds C R u.0 k u.1)))
+    (hull3-holds f P Q R v.0 w.0 u.0 m (inside-holds A P v.0 i v.1) (inside-holds B Q w.0 j w.1)
+    (inside-holds C R u.0 k u.1)))
 
-pub hull4-inside : (f : ℤ → ℤ → ℤ → ℤ → ℤ) (A B C D P Q R S : Interval) → IsMonotone4 f → IsBand A → IsBand B → IsBand C → IsBand D →
+pub hull4-inside : (f : ℤ → ℤ → ℤ → ℤ → ℤ) (A B C D P Q R S : Interval) → IsMonotone4 f → IsBand A → IsBand B →
+    IsBand C → IsBand D →
     IsInside A P → IsInside B Q → IsInside C R → IsInside D S → IsInside (hull4 f A B C D) (hull4 f P Q R S)
-hull4-inside f A B C D P Q R S m a b c d i j k l = hull-inside (IsValue4 f A B C D) (hull4 f A B C D) (hull4 f P Q R S) (hull4-exact f A B C D a b c d m)
+hull4-inside f A B C D P Q R S m a b c d i j k l =
+    hull-inside (IsValue4 f A B C D) (hull4 f A B C D) (hull4 f P Q R S) (hull4-exact f A B C D a b c d m)
     (λ z v. let w = v.2 in let u = w.2 in let t = u.2 in subst (Holds (hull4 f P Q R S)) t.2
-    (hull4-holds f P Q R S v.0 w.0 u.0 t.0 m (inside-holds A P v.0 i v.1) (inside-holds B Q w.0 j w.1) (inside-holds C R u.0 k u.1)
+    (hull4-holds f P Q R S v.0 w.0 u.0 t.0 m (inside-holds A P v.0 i v.1) (inside-holds B Q w.0 j w.1)
+    (inside-holds C R u.0 k u.1)
     (inside-holds D S t.0 l t.1)))
 
-pub hull5-inside : (f : ℤ → ℤ → ℤ → ℤ → ℤ → ℤ) (A B C D E P Q R S T : Interval) → IsMonotone5 f → IsBand A → IsBand B → IsBand C → IsBand D → IsBand E →
-    IsInside A P → IsInside B Q → IsInside C R → IsInside D S → IsInside E T → IsInside (hull5 f A B C D E) (hull5 f P Q R S T)
+pub hull5-inside : (f : ℤ → ℤ → ℤ → ℤ → ℤ → ℤ) (A B C D E P Q R S T : Interval) → IsMonotone5 f → IsBand A → IsBand B →
+    IsBand C → IsBand D → IsBand E →
+    IsInside A P → IsInside B Q → IsInside C R → IsInside D S → IsInside E T →
+    IsInside (hull5 f A B C D E) (hull5 f P Q R S T)
 hull5-inside f A B C D E P Q R S T m a b c d e i j k l n =
     hull-inside (IsValue5 f A B C D E) (hull5 f A B C D E) (hull5 f P Q R S T) (hull5-exact f A B C D E a b c d e m)
     (λ z v. let w = v.2 in let u = w.2 in let t = u.2 in let o = t.2 in subst (Holds (hull5 f P Q R S T)) o.2
-    (hull5-holds f P Q R S T v.0 w.0 u.0 t.0 o.0 m (inside-holds A P v.0 i v.1) (inside-holds B Q w.0 j w.1) (inside-holds C R u.0 k u.1)
+    (hull5-holds f P Q R S T v.0 w.0 u.0 t.0 o.0 m (inside-holds A P v.0 i v.1) (inside-holds B Q w.0 j w.1)
+    (inside-holds C R u.0 k u.1)
     (inside-holds D S t.0 l t.1) (inside-holds E T o.0 n o.1)))
 
 -- the hull over bands of one number each is the value at these
@@ -242,8 +277,10 @@ hull2-point f x y = join-same (hull1 (f x) (point y)) ∙ hull1-point (f x) y
 pub hull3-point : (f : ℤ → ℤ → ℤ → ℤ) (x y z : ℤ) → hull3 f (point x) (point y) (point z) ≡ point (f x y z)
 hull3-point f x y z = join-same (hull2 (f x) (point y) (point z)) ∙ hull2-point (f x) y z
 
-pub hull4-point : (f : ℤ → ℤ → ℤ → ℤ → ℤ) (x y z w : ℤ) → hull4 f (point x) (point y) (point z) (point w) ≡ point (f x y z w)
+pub hull4-point : (f : ℤ → ℤ → ℤ → ℤ → ℤ) (x y z w : ℤ) →
+    hull4 f (point x) (point y) (point z) (point w) ≡ point (f x y z w)
 hull4-point f x y z w = join-same (hull3 (f x) (point y) (point z) (point w)) ∙ hull3-point (f x) y z w
 
-pub hull5-point : (f : ℤ → ℤ → ℤ → ℤ → ℤ → ℤ) (x y z w u : ℤ) → hull5 f (point x) (point y) (point z) (point w) (point u) ≡ point (f x y z w u)
+pub hull5-point : (f : ℤ → ℤ → ℤ → ℤ → ℤ → ℤ) (x y z w u : ℤ) →
+    hull5 f (point x) (point y) (point z) (point w) (point u) ≡ point (f x y z w u)
 hull5-point f x y z w u = join-same (hull4 (f x) (point y) (point z) (point w) (point u)) ∙ hull4-point (f x) y z w u

@@ -2,12 +2,12 @@
 use Rattle.std.proofs.Common.{◌≡◌, ℕ, ℤ, pos, ◌+ℤ◌, ◌-ℤ◌, ◌*ℤ◌, neg_ℤ, ◌≤ℤ◌, arith, refl, sym, ap, ◌∙◌}
 use Rattle.std.proofs.lemmas.Int.{ints}
 use Rattle.std.proofs.Math.IntN.{*ℤ_comm}
-use Rattle.quant.specs.Interval.{Holds, around}
+use Rattle.quant.specs.Interval.{Holds, around, wide, widest}
 use Rattle.quant.specs.Hull.{IsMonotone1, IsMonotone5}
 use Rattle.quant.specs.Rounding.{Rounding, quotient}
-use Rattle.quant.specs.Operation.{million, kept, tray, stage_flows, holdups, slopes, weights, IsDrainable}
+use Rattle.quant.specs.Operation.{million, kept, tray, stage_flows, holdups, slopes, weights, IsDrainable, contents, greatest_content, stage_contents, greatest_stage_content}
 use Rattle.quant.proofs.Division.{add-times, sub-times, times-times, times-le, le-times, ge-times, quotient-rises, quotient-exact_whole}
-use Rattle.quant.proofs.Operations.{rises, falls, by_le_z}
+use Rattle.quant.proofs.Operations.{IsDrawn, drawn-monotone, quotient-drawn}
 
 -- f grows by k with each step of its argument
 pub record IsLinear (f : ℤ → ℤ) (k : ℤ) : Type 0 where
@@ -18,10 +18,12 @@ turned : (k d c : ℤ) → (k *ℤ d) *ℤ c ≡ (k *ℤ c) *ℤ d
 turned k d c = times-times k d c ∙ ap (λ t. k *ℤ t) (*ℤ_comm d c) ∙ sym (times-times k c d)
 
 left-sum : (c a b : ℤ) → c *ℤ (a +ℤ b) ≡ c *ℤ a +ℤ c *ℤ b
-left-sum c a b = *ℤ_comm c (a +ℤ b) ∙ add-times a b c ∙ ap (λ t. t +ℤ b *ℤ c) (*ℤ_comm a c) ∙ ap (λ t. c *ℤ a +ℤ t) (*ℤ_comm b c)
+left-sum c a b = *ℤ_comm c (a +ℤ b) ∙ add-times a b c ∙ ap (λ t. t +ℤ b *ℤ c) (*ℤ_comm a c) ∙
+    ap (λ t. c *ℤ a +ℤ t) (*ℤ_comm b c)
 
 left-difference : (c a b : ℤ) → c *ℤ (a -ℤ b) ≡ c *ℤ a -ℤ c *ℤ b
-left-difference c a b = *ℤ_comm c (a -ℤ b) ∙ sub-times a b c ∙ ap (λ t. t -ℤ b *ℤ c) (*ℤ_comm a c) ∙ ap (λ t. c *ℤ a -ℤ t) (*ℤ_comm b c)
+left-difference c a b = *ℤ_comm c (a -ℤ b) ∙ sub-times a b c ∙ ap (λ t. t -ℤ b *ℤ c) (*ℤ_comm a c) ∙
+    ap (λ t. c *ℤ a -ℤ t) (*ℤ_comm b c)
 
 -- it rises where k is not negative, and falls where k is not positive
 step-is : (f : ℤ → ℤ) (k a b : ℤ) → IsLinear f k → f b ≡ f a +ℤ k *ℤ (b -ℤ a)
@@ -33,17 +35,24 @@ linear-up f k a b h p l = omega (arith, ints, step-is f k a b h, le-times (pos 0
 pub linear-down : (f : ℤ → ℤ) (k a b : ℤ) → IsLinear f k → k ≤ℤ pos 0 → a ≤ℤ b → f b ≤ℤ f a
 linear-down f k a b h p l = omega (arith, ints, step-is f k a b h, ge-times (pos 0) (b -ℤ a) k p (omega (arith, ints)))
 
+-- so it is drawn by the difference that k is
+pub linear-drawn : (c d : ℤ) (f : ℤ → ℤ) (k : ℤ) → IsLinear f k → k ≡ d -ℤ c → IsDrawn c d f
+linear-drawn c d f k h e = record {
+  up = λ x y p l. linear-up f k x y h (omega (arith, ints)) l;
+  down = λ x y p l. linear-down f k x y h (omega (arith, ints)) l;
+}
+
 pub linear-monotone : (r : Rounding) (f : ℤ → ℤ) (k w : ℤ) → IsLinear f k → IsMonotone1 (λ z. quotient r (f z) w)
 linear-monotone r f k w h =
-    by_le_z (pos 0) k
-    (λ p. rises (λ z. quotient r (f z) w) (λ a b l. quotient-rises r (f a) (f b) w (linear-up f k a b h p l)))
-    (λ p. falls (λ z. quotient r (f z) w) (λ a b l. quotient-rises r (f b) (f a) w (linear-down f k a b h p l)))
+    drawn-monotone (pos 0) k (λ z. quotient r (f z) w)
+    (quotient-drawn r (pos 0) k f w (linear-drawn (pos 0) k f k h (omega (arith, ints))))
 
 -- what is divided
 abbrev pub held : ℤ → ℤ → ℤ → ℤ → ℤ → ℤ → ℤ → ℤ
 held holdup slope x xa yb l v = (x *ℤ kept holdup slope l v +ℤ (xa *ℤ l) *ℤ million) +ℤ (yb *ℤ v) *ℤ million
 
-pub tray-is : (r : Rounding) (holdup slope x xa yb l v : ℤ) → tray r holdup slope x xa yb l v ≡ quotient r (held holdup slope x xa yb l v) (holdup *ℤ million)
+pub tray-is : (r : Rounding) (holdup slope x xa yb l v : ℤ) →
+    tray r holdup slope x xa yb l v ≡ quotient r (held holdup slope x xa yb l v) (holdup *ℤ million)
 unfolding tray
 tray-is r holdup slope x xa yb l v = refl
 
@@ -67,7 +76,8 @@ moves : (x u w z d : ℤ) → x *ℤ ((u -ℤ (z +ℤ d)) -ℤ w) ≡ x *ℤ ((u
 moves x u w z d = ap (λ t. x *ℤ t) (omega (arith, ints)) ∙ left-difference x ((u -ℤ z) -ℤ w) d
 
 moved_in : (y z d m : ℤ) → (y *ℤ (z +ℤ d)) *ℤ m ≡ (y *ℤ z) *ℤ m +ℤ (y *ℤ m) *ℤ d
-moved_in y z d m = ap (λ t. t *ℤ m) (left-sum y z d) ∙ add-times (y *ℤ z) (y *ℤ d) m ∙ ap (λ t. (y *ℤ z) *ℤ m +ℤ t) (turned y d m)
+moved_in y z d m = ap (λ t. t *ℤ m) (left-sum y z d) ∙ add-times (y *ℤ z) (y *ℤ d) m ∙
+    ap (λ t. (y *ℤ z) *ℤ m +ℤ t) (turned y d m)
 
 moved_out : (x u w z d m : ℤ) → x *ℤ ((u -ℤ (z +ℤ d) *ℤ m) -ℤ w) ≡ x *ℤ ((u -ℤ z *ℤ m) -ℤ w) -ℤ (x *ℤ m) *ℤ d
 moved_out x u w z d m =
@@ -76,7 +86,10 @@ moved_out x u w z d m =
 
 linear-liquid : (x y u w q m : ℤ) → IsLinear (λ l. (x *ℤ ((u -ℤ l *ℤ m) -ℤ w) +ℤ (y *ℤ l) *ℤ m) +ℤ q) (y *ℤ m -ℤ x *ℤ m)
 linear-liquid x y u w q m =
-    record { grows = λ z d. rw (moved_out x u w z d m) (rw (moved_in y z d m) (omega (arith, ints, sub-times (y *ℤ m) (x *ℤ m) d))) }
+    record {
+      grows = λ z d. rw (moved_out x u w z d m)
+          (rw (moved_in y z d m) (omega (arith, ints, sub-times (y *ℤ m) (x *ℤ m) d)));
+    }
 
 vapour_out : (x u z d s : ℤ) → x *ℤ (u -ℤ (z +ℤ d) *ℤ s) ≡ x *ℤ (u -ℤ z *ℤ s) -ℤ (x *ℤ s) *ℤ d
 vapour_out x u z d s =
@@ -85,84 +98,93 @@ vapour_out x u z d s =
 
 linear-vapour : (x y u p m s : ℤ) → IsLinear (λ v. (x *ℤ (u -ℤ v *ℤ s) +ℤ p) +ℤ (y *ℤ v) *ℤ m) (y *ℤ m -ℤ x *ℤ s)
 linear-vapour x y u p m s =
-    record { grows = λ z d. rw (vapour_out x u z d s) (rw (moved_in y z d m) (omega (arith, ints, sub-times (y *ℤ m) (x *ℤ s) d))) }
+    record {
+      grows = λ z d. rw (vapour_out x u z d s)
+          (rw (moved_in y z d m) (omega (arith, ints, sub-times (y *ℤ m) (x *ℤ s) d)));
+    }
 
 -- what the code divides, by its three products
 pub divided : (r : Rounding) (holdup slope x xa yb l v p q s t w : ℤ) →
-    p ≡ x *ℤ kept holdup slope l v → q ≡ xa *ℤ (l *ℤ million) → s ≡ yb *ℤ (v *ℤ million) → t ≡ (p +ℤ q) +ℤ s → w ≡ holdup *ℤ million →
+    p ≡ x *ℤ kept holdup slope l v → q ≡ xa *ℤ (l *ℤ million) → s ≡ yb *ℤ (v *ℤ million) → t ≡ (p +ℤ q) +ℤ s →
+    w ≡ holdup *ℤ million →
     quotient r t w ≡ tray r holdup slope x xa yb l v
 unfolding tray
 divided r holdup slope x xa yb l v p q s t w e f g h i =
-    let all : t ≡ held holdup slope x xa yb l v = omega (arith, ints, e, f, g, h, times-times xa l million, times-times yb v million) in
+    let all : t ≡ held holdup slope x xa yb l v =
+    omega (arith, ints, e, f, g, h, times-times xa l million, times-times yb v million) in
     ap (λ u. quotient r u w) all ∙ ap (quotient r (held holdup slope x xa yb l v)) i
 
--- so it rises with each content, where what flows and what stays is not negative
-pub tray-own : (r : Rounding) (holdup slope a b xa yb l v : ℤ) → pos 0 ≤ℤ kept holdup slope l v → a ≤ℤ b →
-    tray r holdup slope a xa yb l v ≤ℤ tray r holdup slope b xa yb l v
-unfolding tray
-tray-own r holdup slope a b xa yb l v p h =
-    quotient-rises r (held holdup slope a xa yb l v) (held holdup slope b xa yb l v) (holdup *ℤ million)
-    (linear-up (λ x. held holdup slope x xa yb l v) (kept holdup slope l v) a b (linear-own (kept holdup slope l v) ((xa *ℤ l) *ℤ million) ((yb *ℤ v) *ℤ million)) p h)
+-- how what is divided grows with each argument
+held-own : (holdup slope xa yb l v : ℤ) → IsLinear (λ x. held holdup slope x xa yb l v) (kept holdup slope l v)
+held-own holdup slope xa yb l v = linear-own (kept holdup slope l v) ((xa *ℤ l) *ℤ million) ((yb *ℤ v) *ℤ million)
 
-pub tray-above : (r : Rounding) (holdup slope x a b yb l v : ℤ) → pos 0 ≤ℤ l → a ≤ℤ b →
-    tray r holdup slope x a yb l v ≤ℤ tray r holdup slope x b yb l v
-unfolding tray
-tray-above r holdup slope x a b yb l v p h =
-    quotient-rises r (held holdup slope x a yb l v) (held holdup slope x b yb l v) (holdup *ℤ million)
-    (linear-up (λ xa. held holdup slope x xa yb l v) (l *ℤ million) a b (linear-above (x *ℤ kept holdup slope l v) ((yb *ℤ v) *ℤ million) l million) (omega (arith, ints)) h)
+held-above : (holdup slope x yb l v : ℤ) → IsLinear (λ xa. held holdup slope x xa yb l v) (l *ℤ million)
+held-above holdup slope x yb l v = linear-above (x *ℤ kept holdup slope l v) ((yb *ℤ v) *ℤ million) l million
 
-pub tray-below : (r : Rounding) (holdup slope x xa a b l v : ℤ) → pos 0 ≤ℤ v → a ≤ℤ b →
-    tray r holdup slope x xa a l v ≤ℤ tray r holdup slope x xa b l v
+held-below : (holdup slope x xa l v : ℤ) → IsLinear (λ yb. held holdup slope x xa yb l v) (v *ℤ million)
+held-below holdup slope x xa l v = linear-below (x *ℤ kept holdup slope l v +ℤ (xa *ℤ l) *ℤ million) v million
+
+held-liquid : (holdup slope x xa yb v : ℤ) → IsLinear (λ l. held holdup slope x xa yb l v)
+    (xa *ℤ million -ℤ x *ℤ million)
+held-liquid holdup slope x xa yb v = linear-liquid x xa (holdup *ℤ million) (v *ℤ slope) ((yb *ℤ v) *ℤ million) million
+
+held-vapour : (holdup slope x xa yb l : ℤ) → IsLinear (λ v. held holdup slope x xa yb l v) (yb *ℤ million -ℤ x *ℤ slope)
+held-vapour holdup slope x xa yb l = linear-vapour x yb (holdup *ℤ million -ℤ l *ℤ million)
+    ((xa *ℤ l) *ℤ million) million slope
+
+-- it rises with each content, where what flows and what stays is not negative
+pub record IsPushed (holdup slope l v : ℤ) : Type 0 where
+  pub liquid : pos 0 ≤ℤ l
+  pub vapour : pos 0 ≤ℤ v
+  pub own : pos 0 ≤ℤ kept holdup slope l v
+
+pub tray-contents : (r : Rounding) (holdup slope l v : ℤ) → IsPushed holdup slope l v → (x xa yb y ya zb : ℤ) →
+    x ≤ℤ y → xa ≤ℤ ya → yb ≤ℤ zb → tray r holdup slope x xa yb l v ≤ℤ tray r holdup slope y ya zb l v
 unfolding tray
-tray-below r holdup slope x xa a b l v p h =
-    quotient-rises r (held holdup slope x xa a l v) (held holdup slope x xa b l v) (holdup *ℤ million)
-    (linear-up (λ yb. held holdup slope x xa yb l v) (v *ℤ million) a b (linear-below (x *ℤ kept holdup slope l v +ℤ (xa *ℤ l) *ℤ million) v million) (omega (arith, ints)) h)
+tray-contents r holdup slope l v p x xa yb y ya zb h k i =
+    quotient-rises r (held holdup slope x xa yb l v) (held holdup slope y ya zb l v) (holdup *ℤ million)
+    (omega (
+      arith,
+      ints,
+      linear-up (λ t. held holdup slope t xa yb l v) (kept holdup slope l v) x y
+          (held-own holdup slope xa yb l v) p.own h,
+      linear-up (λ t. held holdup slope y t yb l v) (l *ℤ million) xa ya (held-above holdup slope y yb l v)
+          (omega (arith, ints, p.liquid)) k,
+      linear-up (λ t. held holdup slope y ya t l v) (v *ℤ million) yb zb (held-below holdup slope y ya l v)
+          (omega (arith, ints, p.vapour)) i,
+    ))
 
 -- the liquid draws it to the content above, and the vapour to what comes from below
-linear-l : (holdup slope x xa yb v : ℤ) → IsLinear (λ l. held holdup slope x xa yb l v) (xa *ℤ million -ℤ x *ℤ million)
-linear-l holdup slope x xa yb v = linear-liquid x xa (holdup *ℤ million) (v *ℤ slope) ((yb *ℤ v) *ℤ million) million
-
-linear-v : (holdup slope x xa yb l : ℤ) → IsLinear (λ v. held holdup slope x xa yb l v) (yb *ℤ million -ℤ x *ℤ slope)
-linear-v holdup slope x xa yb l = linear-vapour x yb (holdup *ℤ million -ℤ l *ℤ million) ((xa *ℤ l) *ℤ million) million slope
-
-pub tray-liquid_up : (r : Rounding) (holdup slope x xa yb k l v : ℤ) → x ≤ℤ xa → k ≤ℤ l → tray r holdup slope x xa yb k v ≤ℤ tray r holdup slope x xa yb l v
+pub tray-liquid : (r : Rounding) (holdup slope x xa yb v : ℤ) → IsDrawn x xa (λ l. tray r holdup slope x xa yb l v)
 unfolding tray
-tray-liquid_up r holdup slope x xa yb k l v p h =
-    quotient-rises r (held holdup slope x xa yb k v) (held holdup slope x xa yb l v) (holdup *ℤ million)
-    (linear-up (λ t. held holdup slope x xa yb t v) (xa *ℤ million -ℤ x *ℤ million) k l (linear-l holdup slope x xa yb v) (omega (arith, ints)) h)
+tray-liquid r holdup slope x xa yb v =
+    let f : ℤ → ℤ = λ l. held holdup slope x xa yb l v in
+    let k = xa *ℤ million -ℤ x *ℤ million in
+    quotient-drawn r x xa f (holdup *ℤ million) (record {
+      up = λ a b p l. linear-up f k a b (held-liquid holdup slope x xa yb v) (omega (arith, ints)) l;
+      down = λ a b p l. linear-down f k a b (held-liquid holdup slope x xa yb v) (omega (arith, ints)) l;
+    })
 
-pub tray-liquid_down : (r : Rounding) (holdup slope x xa yb k l v : ℤ) → xa ≤ℤ x → k ≤ℤ l → tray r holdup slope x xa yb l v ≤ℤ tray r holdup slope x xa yb k v
+pub tray-vapour : (r : Rounding) (holdup slope x xa yb l : ℤ) →
+    IsDrawn (x *ℤ slope) (yb *ℤ million) (tray r holdup slope x xa yb l)
 unfolding tray
-tray-liquid_down r holdup slope x xa yb k l v p h =
-    quotient-rises r (held holdup slope x xa yb l v) (held holdup slope x xa yb k v) (holdup *ℤ million)
-    (linear-down (λ t. held holdup slope x xa yb t v) (xa *ℤ million -ℤ x *ℤ million) k l (linear-l holdup slope x xa yb v) (omega (arith, ints)) h)
-
-pub tray-vapour_up : (r : Rounding) (holdup slope x xa yb l u v : ℤ) → (x *ℤ slope) ≤ℤ (yb *ℤ million) → u ≤ℤ v →
-    tray r holdup slope x xa yb l u ≤ℤ tray r holdup slope x xa yb l v
-unfolding tray
-tray-vapour_up r holdup slope x xa yb l u v p h =
-    quotient-rises r (held holdup slope x xa yb l u) (held holdup slope x xa yb l v) (holdup *ℤ million)
-    (linear-up (held holdup slope x xa yb l) (yb *ℤ million -ℤ x *ℤ slope) u v (linear-v holdup slope x xa yb l) (omega (arith, ints)) h)
-
-pub tray-vapour_down : (r : Rounding) (holdup slope x xa yb l u v : ℤ) → (yb *ℤ million) ≤ℤ (x *ℤ slope) → u ≤ℤ v →
-    tray r holdup slope x xa yb l v ≤ℤ tray r holdup slope x xa yb l u
-unfolding tray
-tray-vapour_down r holdup slope x xa yb l u v p h =
-    quotient-rises r (held holdup slope x xa yb l v) (held holdup slope x xa yb l u) (holdup *ℤ million)
-    (linear-down (held holdup slope x xa yb l) (yb *ℤ million -ℤ x *ℤ slope) u v (linear-v holdup slope x xa yb l) (omega (arith, ints)) h)
+tray-vapour r holdup slope x xa yb l =
+    quotient-drawn r (x *ℤ slope) (yb *ℤ million) (held holdup slope x xa yb l) (holdup *ℤ million)
+    (linear-drawn (x *ℤ slope) (yb *ℤ million) (held holdup slope x xa yb l) _
+    (held-vapour holdup slope x xa yb l) refl)
 
 pub tray-monotone : (r : Rounding) (holdup slope : ℤ) → IsMonotone5 (tray r holdup slope)
 unfolding tray
 tray-monotone r holdup slope =
     let w = holdup *ℤ million in (
-      (λ xa yb l v. linear-monotone r (λ x. held holdup slope x xa yb l v) (kept holdup slope l v) w (linear-own (kept holdup slope l v) ((xa *ℤ l) *ℤ million) ((yb *ℤ v) *ℤ million))),
+      (λ xa yb l v. linear-monotone r _ (kept holdup slope l v) w (held-own holdup slope xa yb l v)),
       (λ x. (
-        (λ yb l v. linear-monotone r (λ xa. held holdup slope x xa yb l v) (l *ℤ million) w (linear-above (x *ℤ kept holdup slope l v) ((yb *ℤ v) *ℤ million) l million)),
+        (λ yb l v. linear-monotone r _ (l *ℤ million) w (held-above holdup slope x yb l v)),
         (λ xa. (
-          (λ l v. linear-monotone r (λ yb. held holdup slope x xa yb l v) (v *ℤ million) w (linear-below (x *ℤ kept holdup slope l v +ℤ (xa *ℤ l) *ℤ million) v million)),
+          (λ l v. linear-monotone r _ (v *ℤ million) w (held-below holdup slope x xa l v)),
           (λ yb. (
-            (λ v. linear-monotone r (λ l. held holdup slope x xa yb l v) (xa *ℤ million -ℤ x *ℤ million) w (linear-l holdup slope x xa yb v)),
-            (λ l. linear-monotone r (held holdup slope x xa yb l) (yb *ℤ million -ℤ x *ℤ slope) w (linear-v holdup slope x xa yb l)),
+            (λ v. drawn-monotone x xa (λ l. tray r holdup slope x xa yb l v) (tray-liquid r holdup slope x xa yb v)),
+            (λ l. drawn-monotone _ _ (tray r holdup slope x xa yb l) (tray-vapour r holdup slope x xa yb l)),
           )),
         )),
       )),
@@ -172,7 +194,8 @@ tray-monotone r holdup slope =
 pub leaving : (slope v : ℤ) → Holds slopes slope → Holds stage_flows v → pos 0 ≤ℤ (v *ℤ slope)
 leaving slope v s h = omega (arith, ints, times-le (pos 0) v slope s.above h.above)
 
-pub kept-weighs : (holdup slope l v : ℤ) → Holds holdups holdup → Holds slopes slope → Holds stage_flows l → Holds stage_flows v → IsDrainable holdup slope l v →
+pub kept-weighs : (holdup slope l v : ℤ) → Holds holdups holdup → Holds slopes slope → Holds stage_flows l →
+    Holds stage_flows v → IsDrainable holdup slope l v →
     Holds weights (kept holdup slope l v)
 kept-weighs holdup slope l v h s i j d =
     let n = leaving slope v s j in
@@ -186,20 +209,49 @@ weighed-high : (a k : ℤ) (n : ℕ) → Holds (around n) a → pos 0 ≤ℤ k �
 weighed-high a k n h p = times-le a (pos n) k p h.below
 
 -- the content after a tick, where the three contents are of this size
-pub tray-around : (r : Rounding) (holdup slope x xa yb l v : ℤ) → Holds (around 1000000000000) x → Holds (around 1000000000000) xa → Holds (around 10000000000000000) yb →
-    Holds holdups holdup → Holds slopes slope → Holds stage_flows l → Holds stage_flows v → IsDrainable holdup slope l v →
-    Holds (around 20000000000000000) (tray r holdup slope x xa yb l v)
+pub tray-around : (r : Rounding) (holdup slope x xa yb l v : ℤ) → Holds wide x → Holds wide xa → Holds contents yb →
+    Holds holdups holdup → Holds slopes slope → Holds stage_flows l → Holds stage_flows v →
+    IsDrainable holdup slope l v →
+    Holds stage_contents (tray r holdup slope x xa yb l v)
 unfolding tray
 tray-around r holdup slope x xa yb l v a b c h s i j d =
     let n = leaving slope v s j in
     let k = kept-weighs holdup slope l v h s i j d in
     let w = holdup *ℤ million in
     let one : pos 1 ≤ℤ w = omega (arith, ints) in
-    let low : (neg_ℤ (pos 20000000000000000) *ℤ w) ≤ℤ held holdup slope x xa yb l v =
-    omega (arith, ints, weighed-low x (kept holdup slope l v) 1000000000000 a k.above, weighed-low xa l 1000000000000 b i.above, weighed-low yb v 10000000000000000 c j.above, d.leaves, d.passes) in
-    let high : held holdup slope x xa yb l v ≤ℤ (pos 20000000000000000 *ℤ w) =
-    omega (arith, ints, weighed-high x (kept holdup slope l v) 1000000000000 a k.above, weighed-high xa l 1000000000000 b i.above, weighed-high yb v 10000000000000000 c j.above, d.leaves, d.passes) in
+    let low : (neg_ℤ (pos greatest_stage_content) *ℤ w) ≤ℤ held holdup slope x xa yb l v =
+    omega (
+      arith,
+      ints,
+      weighed-low x (kept holdup slope l v) widest a k.above,
+      weighed-low xa l widest b i.above,
+      weighed-low yb v greatest_content c j.above,
+      d.leaves,
+      d.passes,
+    ) in
+    let high : held holdup slope x xa yb l v ≤ℤ (pos greatest_stage_content *ℤ w) =
+    omega (
+      arith,
+      ints,
+      weighed-high x (kept holdup slope l v) widest a k.above,
+      weighed-high xa l widest b i.above,
+      weighed-high yb v greatest_content c j.above,
+      d.leaves,
+      d.passes,
+    ) in
     record {
-      above = omega (arith, ints, quotient-rises r (neg_ℤ (pos 20000000000000000) *ℤ w) (held holdup slope x xa yb l v) w low, quotient-exact_whole r (neg_ℤ (pos 20000000000000000)) w one);
-      below = omega (arith, ints, quotient-rises r (held holdup slope x xa yb l v) (pos 20000000000000000 *ℤ w) w high, quotient-exact_whole r (pos 20000000000000000) w one);
+      above = omega (
+        arith,
+        ints,
+        quotient-rises r (neg_ℤ (pos greatest_stage_content) *ℤ w)
+            (held holdup slope x xa yb l v) w low,
+        quotient-exact_whole r (neg_ℤ (pos greatest_stage_content)) w one,
+      );
+      below = omega (
+        arith,
+        ints,
+        quotient-rises r (held holdup slope x xa yb l v)
+            (pos greatest_stage_content *ℤ w) w high,
+        quotient-exact_whole r (pos greatest_stage_content) w one,
+      );
     }

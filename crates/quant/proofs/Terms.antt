@@ -49,19 +49,24 @@ number-inside : (z : ℤ) → IsInside (point z) (point z)
 number-inside z = record { above = omega (arith, ints); below = omega (arith, ints) }
 
 -- a term over bands holds the term over any numbers in these
-pub interval-holds : (r : Rounding) (states inputs : List Interval) (state ins : List ℤ) → AllHold states state → AllHold inputs ins →
+pub interval-holds : (r : Rounding) (states inputs : List Interval) (state ins : List ℤ) → AllHold states state →
+    AllHold inputs ins →
     (t : Term) → Holds (interval r states inputs t) (value r state ins t)
 interval-holds r states inputs st ins h k (state n) = place-holds states st n h
 interval-holds r states inputs st ins h k (input n) = place-holds inputs ins n k
 interval-holds r states inputs st ins h k (number z) = number-holds z
 interval-holds r states inputs st ins h k (sum t u) =
-    hull2-holds ◌+ℤ◌ _ _ _ _ sum-monotone (interval-holds r states inputs st ins h k t) (interval-holds r states inputs st ins h k u)
+    hull2-holds ◌+ℤ◌ _ _ _ _ sum-monotone (interval-holds r states inputs st ins h k t)
+    (interval-holds r states inputs st ins h k u)
 interval-holds r states inputs st ins h k (difference t u) =
-    hull2-holds ◌-ℤ◌ _ _ _ _ difference-monotone (interval-holds r states inputs st ins h k t) (interval-holds r states inputs st ins h k u)
+    hull2-holds ◌-ℤ◌ _ _ _ _ difference-monotone (interval-holds r states inputs st ins h k t)
+    (interval-holds r states inputs st ins h k u)
 interval-holds r states inputs st ins h k (share_of t u) =
-    hull2-holds (share r) _ _ _ _ (share-monotone r) (interval-holds r states inputs st ins h k t) (interval-holds r states inputs st ins h k u)
+    hull2-holds (share r) _ _ _ _ (share-monotone r) (interval-holds r states inputs st ins h k t)
+    (interval-holds r states inputs st ins h k u)
 interval-holds r states inputs st ins h k (rest_of t u) =
-    hull2-holds (keep r) _ _ _ _ (keep-monotone r) (interval-holds r states inputs st ins h k t) (interval-holds r states inputs st ins h k u)
+    hull2-holds (keep r) _ _ _ _ (keep-monotone r) (interval-holds r states inputs st ins h k t)
+    (interval-holds r states inputs st ins h k u)
 interval-holds r states inputs st ins h k (blend_of t u v w) =
     hull4-holds (blend r) _ _ _ _ _ _ _ _ (blend-monotone r)
     (interval-holds r states inputs st ins h k t) (interval-holds r states inputs st ins h k u)
@@ -75,7 +80,8 @@ interval-holds r states inputs st ins h k (mix_of t u v w) =
 interval-holds r states inputs st ins h k (tray_of holdup slope t u v w z) =
     hull5-holds (tray r holdup slope) _ _ _ _ _ _ _ _ _ _ (tray-monotone r holdup slope)
     (interval-holds r states inputs st ins h k t) (interval-holds r states inputs st ins h k u)
-    (interval-holds r states inputs st ins h k v) (interval-holds r states inputs st ins h k w) (interval-holds r states inputs st ins h k z)
+    (interval-holds r states inputs st ins h k v) (interval-holds r states inputs st ins h k w)
+    (interval-holds r states inputs st ins h k z)
 interval-holds r states inputs st ins h k (lookup_of points t) =
     hull1-holds (lookup r points) _ _ (lookup-monotone r points) (interval-holds r states inputs st ins h k t)
 interval-holds r states inputs st ins h k (clamped limits t) =
@@ -92,16 +98,20 @@ interval-band r states inputs h k (sum t u) =
 interval-band r states inputs h k (difference t u) =
     hull2-band ◌-ℤ◌ _ _ difference-monotone (interval-band r states inputs h k t) (interval-band r states inputs h k u)
 interval-band r states inputs h k (share_of t u) =
-    hull2-band (share r) _ _ (share-monotone r) (interval-band r states inputs h k t) (interval-band r states inputs h k u)
+    hull2-band (share r) _ _ (share-monotone r) (interval-band r states inputs h k t)
+    (interval-band r states inputs h k u)
 interval-band r states inputs h k (rest_of t u) =
-    hull2-band (keep r) _ _ (keep-monotone r) (interval-band r states inputs h k t) (interval-band r states inputs h k u)
+    hull2-band (keep r) _ _ (keep-monotone r) (interval-band r states inputs h k t)
+    (interval-band r states inputs h k u)
 interval-band r states inputs h k (blend_of t u v w) =
-    hull4-band (blend r) _ _ _ _ (blend-monotone r) (interval-band r states inputs h k t) (interval-band r states inputs h k u)
+    hull4-band (blend r) _ _ _ _ (blend-monotone r) (interval-band r states inputs h k t)
+    (interval-band r states inputs h k u)
     (interval-band r states inputs h k v) (interval-band r states inputs h k w)
 interval-band r states inputs h k (gain_of g t) =
     hull1-band (gain r g) _ (gain-monotone r g) (interval-band r states inputs h k t)
 interval-band r states inputs h k (mix_of t u v w) =
-    hull4-band (mix r) _ _ _ _ (mix-monotone r) (interval-band r states inputs h k t) (interval-band r states inputs h k u)
+    hull4-band (mix r) _ _ _ _ (mix-monotone r) (interval-band r states inputs h k t)
+    (interval-band r states inputs h k u)
     (interval-band r states inputs h k v) (interval-band r states inputs h k w)
 interval-band r states inputs h k (tray_of holdup slope t u v w z) =
     hull5-band (tray r holdup slope) _ _ _ _ _ (tray-monotone r holdup slope)
@@ -123,23 +133,29 @@ interval-inside r states inputs ws wi s i h k (sum t u) =
     hull2-inside ◌+ℤ◌ _ _ _ _ sum-monotone (interval-band r states inputs s i t) (interval-band r states inputs s i u)
     (interval-inside r states inputs ws wi s i h k t) (interval-inside r states inputs ws wi s i h k u)
 interval-inside r states inputs ws wi s i h k (difference t u) =
-    hull2-inside ◌-ℤ◌ _ _ _ _ difference-monotone (interval-band r states inputs s i t) (interval-band r states inputs s i u)
+    hull2-inside ◌-ℤ◌ _ _ _ _ difference-monotone (interval-band r states inputs s i t)
+    (interval-band r states inputs s i u)
     (interval-inside r states inputs ws wi s i h k t) (interval-inside r states inputs ws wi s i h k u)
 interval-inside r states inputs ws wi s i h k (share_of t u) =
-    hull2-inside (share r) _ _ _ _ (share-monotone r) (interval-band r states inputs s i t) (interval-band r states inputs s i u)
+    hull2-inside (share r) _ _ _ _ (share-monotone r) (interval-band r states inputs s i t)
+    (interval-band r states inputs s i u)
     (interval-inside r states inputs ws wi s i h k t) (interval-inside r states inputs ws wi s i h k u)
 interval-inside r states inputs ws wi s i h k (rest_of t u) =
-    hull2-inside (keep r) _ _ _ _ (keep-monotone r) (interval-band r states inputs s i t) (interval-band r states inputs s i u)
+    hull2-inside (keep r) _ _ _ _ (keep-monotone r) (interval-band r states inputs s i t)
+    (interval-band r states inputs s i u)
     (interval-inside r states inputs ws wi s i h k t) (interval-inside r states inputs ws wi s i h k u)
 interval-inside r states inputs ws wi s i h k (blend_of t u v w) =
-    hull4-inside (blend r) _ _ _ _ _ _ _ _ (blend-monotone r) (interval-band r states inputs s i t) (interval-band r states inputs s i u)
+    hull4-inside (blend r) _ _ _ _ _ _ _ _ (blend-monotone r) (interval-band r states inputs s i t)
+    (interval-band r states inputs s i u)
     (interval-band r states inputs s i v) (interval-band r states inputs s i w)
     (interval-inside r states inputs ws wi s i h k t) (interval-inside r states inputs ws wi s i h k u)
     (interval-inside r states inputs ws wi s i h k v) (interval-inside r states inputs ws wi s i h k w)
 interval-inside r states inputs ws wi s i h k (gain_of g t) =
-    hull1-inside (gain r g) _ _ (gain-monotone r g) (interval-band r states inputs s i t) (interval-inside r states inputs ws wi s i h k t)
+    hull1-inside (gain r g) _ _ (gain-monotone r g) (interval-band r states inputs s i t)
+    (interval-inside r states inputs ws wi s i h k t)
 interval-inside r states inputs ws wi s i h k (mix_of t u v w) =
-    hull4-inside (mix r) _ _ _ _ _ _ _ _ (mix-monotone r) (interval-band r states inputs s i t) (interval-band r states inputs s i u)
+    hull4-inside (mix r) _ _ _ _ _ _ _ _ (mix-monotone r) (interval-band r states inputs s i t)
+    (interval-band r states inputs s i u)
     (interval-band r states inputs s i v) (interval-band r states inputs s i w)
     (interval-inside r states inputs ws wi s i h k t) (interval-inside r states inputs ws wi s i h k u)
     (interval-inside r states inputs ws wi s i h k v) (interval-inside r states inputs ws wi s i h k w)
@@ -148,11 +164,14 @@ interval-inside r states inputs ws wi s i h k (tray_of holdup slope t u v w z) =
     (interval-band r states inputs s i t) (interval-band r states inputs s i u)
     (interval-band r states inputs s i v) (interval-band r states inputs s i w) (interval-band r states inputs s i z)
     (interval-inside r states inputs ws wi s i h k t) (interval-inside r states inputs ws wi s i h k u)
-    (interval-inside r states inputs ws wi s i h k v) (interval-inside r states inputs ws wi s i h k w) (interval-inside r states inputs ws wi s i h k z)
+    (interval-inside r states inputs ws wi s i h k v) (interval-inside r states inputs ws wi s i h k w)
+    (interval-inside r states inputs ws wi s i h k z)
 interval-inside r states inputs ws wi s i h k (lookup_of points t) =
-    hull1-inside (lookup r points) _ _ (lookup-monotone r points) (interval-band r states inputs s i t) (interval-inside r states inputs ws wi s i h k t)
+    hull1-inside (lookup r points) _ _ (lookup-monotone r points) (interval-band r states inputs s i t)
+    (interval-inside r states inputs ws wi s i h k t)
 interval-inside r states inputs ws wi s i h k (clamped limits t) =
-    hull1-inside (clamp limits) _ _ (clamp-monotone limits) (interval-band r states inputs s i t) (interval-inside r states inputs ws wi s i h k t)
+    hull1-inside (clamp limits) _ _ (clamp-monotone limits) (interval-band r states inputs s i t)
+    (interval-inside r states inputs ws wi s i h k t)
 
 -- operations over bands that are one number each
 at_points1 : (f : ℤ → ℤ) (A : Interval) (x : ℤ) → A ≡ point x → hull1 f A ≡ point (f x)
@@ -161,13 +180,16 @@ at_points1 f A x e = ap (hull1 f) e ∙ hull1-point f x
 at_points2 : (f : ℤ → ℤ → ℤ) (A B : Interval) (x y : ℤ) → A ≡ point x → B ≡ point y → hull2 f A B ≡ point (f x y)
 at_points2 f A B x y e g = ap (λ X. hull2 f X B) e ∙ (ap (hull2 f (point x)) g ∙ hull2-point f x y)
 
-at_points4 : (f : ℤ → ℤ → ℤ → ℤ → ℤ) (A B C D : Interval) (x y z w : ℤ) → A ≡ point x → B ≡ point y → C ≡ point z → D ≡ point w →
+at_points4 : (f : ℤ → ℤ → ℤ → ℤ → ℤ) (A B C D : Interval) (x y z w : ℤ) → A ≡ point x → B ≡ point y → C ≡ point z →
+    D ≡ point w →
     hull4 f A B C D ≡ point (f x y z w)
 at_points4 f A B C D x y z w e g h k =
     ap (λ X. hull4 f X B C D) e ∙ (ap (λ Y. hull4 f (point x) Y C D) g ∙
-    (ap (λ Z. hull4 f (point x) (point y) Z D) h ∙ (ap (hull4 f (point x) (point y) (point z)) k ∙ hull4-point f x y z w)))
+    (ap (λ Z. hull4 f (point x) (point y) Z D) h ∙
+    (ap (hull4 f (point x) (point y) (point z)) k ∙ hull4-point f x y z w)))
 
-at_points5 : (f : ℤ → ℤ → ℤ → ℤ → ℤ → ℤ) (A B C D E : Interval) (x y z w u : ℤ) → A ≡ point x → B ≡ point y → C ≡ point z → D ≡ point w → E ≡ point u →
+at_points5 : (f : ℤ → ℤ → ℤ → ℤ → ℤ → ℤ) (A B C D E : Interval) (x y z w u : ℤ) → A ≡ point x → B ≡ point y →
+    C ≡ point z → D ≡ point w → E ≡ point u →
     hull5 f A B C D E ≡ point (f x y z w u)
 at_points5 f A B C D E x y z w u e g h k l =
     ap (λ X. hull5 f X B C D E) e ∙ (ap (λ Y. hull5 f (point x) Y C D E) g ∙
@@ -175,7 +197,8 @@ at_points5 f A B C D E x y z w u e g h k l =
     (ap (hull5 f (point x) (point y) (point z) (point w)) l ∙ hull5-point f x y z w u))))
 
 -- a term over bands of one number each is that of the numbers
-pub interval-point : (r : Rounding) (state ins : List ℤ) (t : Term) → interval r (points state) (points ins) t ≡ point (value r state ins t)
+pub interval-point : (r : Rounding) (state ins : List ℤ) (t : Term) →
+    interval r (points state) (points ins) t ≡ point (value r state ins t)
 interval-point r st ins (state n) = get_or-map point st n (pos 0)
 interval-point r st ins (input n) = get_or-map point ins n (pos 0)
 interval-point r st ins (number z) = refl
@@ -197,32 +220,39 @@ interval-point r st ins (mix_of t u v w) =
     (interval-point r st ins t) (interval-point r st ins u) (interval-point r st ins v) (interval-point r st ins w)
 interval-point r st ins (tray_of holdup slope t u v w z) =
     at_points5 (tray r holdup slope) _ _ _ _ _ _ _ _ _ _
-    (interval-point r st ins t) (interval-point r st ins u) (interval-point r st ins v) (interval-point r st ins w) (interval-point r st ins z)
+    (interval-point r st ins t) (interval-point r st ins u) (interval-point r st ins v) (interval-point r st ins w)
+    (interval-point r st ins z)
 interval-point r st ins (lookup_of points t) =
     at_points1 (lookup r points) _ _ (interval-point r st ins t)
 interval-point r st ins (clamped limits t) =
     at_points1 (clamp limits) _ _ (interval-point r st ins t)
 
 -- each of many terms over bands holds the term over any numbers in these
-pub intervals-hold : (r : Rounding) (terms : List Term) (states inputs : List Interval) (state ins : List ℤ) → AllHold states state → AllHold inputs ins →
+pub intervals-hold : (r : Rounding) (terms : List Term) (states inputs : List Interval) (state ins : List ℤ) →
+    AllHold states state → AllHold inputs ins →
     AllHold (intervals r terms states inputs) (values r terms state ins)
 intervals-hold r [] states inputs st ins h k = tt
 intervals-hold r (t ∷ terms) states inputs st ins h k =
     (interval-holds r states inputs st ins h k t, intervals-hold r terms states inputs st ins h k)
 
 -- each of many terms over bands has a number in it
-pub intervals-bands : (r : Rounding) (terms : List Term) (states inputs : List Interval) → AllBands states → AllBands inputs →
+pub intervals-bands : (r : Rounding) (terms : List Term) (states inputs : List Interval) → AllBands states →
+    AllBands inputs →
     AllBands (intervals r terms states inputs)
 intervals-bands r [] states inputs h k = tt
-intervals-bands r (t ∷ terms) states inputs h k = (interval-band r states inputs h k t, intervals-bands r terms states inputs h k)
+intervals-bands r (t ∷ terms) states inputs h k =
+    (interval-band r states inputs h k t, intervals-bands r terms states inputs h k)
 
 -- each of many terms over narrower bands is narrower
 pub intervals-inside : (r : Rounding) (terms : List Term) (states inputs wider_states wider_inputs : List Interval) →
     AllBands states → AllBands inputs → AllInside states wider_states → AllInside inputs wider_inputs →
     AllInside (intervals r terms states inputs) (intervals r terms wider_states wider_inputs)
 intervals-inside r [] states inputs wider_states wider_inputs s i h k = tt
-intervals-inside r (t ∷ terms) states inputs wider_states wider_inputs s i h k =
-    (interval-inside r states inputs wider_states wider_inputs s i h k t, intervals-inside r terms states inputs wider_states wider_inputs s i h k)
+intervals-inside r (t ∷ terms) states inputs wider_states wider_inputs s i h k = (
+  interval-inside r states inputs wider_states wider_inputs s i h k t,
+  intervals-inside r terms states inputs
+      wider_states wider_inputs s i h k,
+)
 
 -- many terms over bands of one number each are those of the numbers
 pub intervals-points : (r : Rounding) (terms : List Term) (state ins : List ℤ) →

@@ -1,5 +1,5 @@
 -- Bands as contracts see them: an interval of whole numbers, by its ends.
-use Rattle.std.specs.Prelude.{ℕ, ℤ, pos, ◌≤ℤ◌, List, [], ◌∷◌, map, neg_ℤ}
+use Rattle.std.specs.Prelude.{ℕ, ◌^◌, ℤ, pos, ◌≤ℤ◌, List, [], ◌∷◌, map, neg_ℤ}
 use Rattle.std.specs.Int.{int_min, int_max}
 
 -- the whole numbers from lo to hi
@@ -56,6 +56,10 @@ points zs = map point zs
 abbrev pub around : ℕ → Interval
 around n = record { lo = neg_ℤ (pos n); hi = pos n }
 
--- where each limit and each input lies: from -10^12 to 10^12
+-- the greatest size of a limit and of an input
+abbrev pub widest : ℕ
+widest = 10 ^ 12
+
+-- where each limit and each input lies
 abbrev pub wide : Interval
-wide = around 1000000000000
+wide = around widest

@@ -2,6 +2,7 @@ pub mod Interval
 pub mod Hull
 pub mod Rounding
 pub mod Operation
+pub mod Picks
 pub mod Table
 pub mod Term
 pub mod Limits

@@ -1,12 +1,16 @@
 -- The operations on numbers that unit equations are made of.
-use Rattle.std.specs.Prelude.{ℤ, pos, ◌+ℤ◌, ◌-ℤ◌, ◌*ℤ◌, ◌≤ℤ◌, int_le, if◌then◌else◌, List, [], ◌∷◌}
+use Rattle.std.specs.Prelude.{ℕ, ◌*◌, ◌^◌, ℤ, pos, ◌+ℤ◌, ◌-ℤ◌, ◌*ℤ◌, ◌≤ℤ◌, int_le, if◌then◌else◌, List, [], ◌∷◌}
 use Rattle.std.specs.Int.{int_min, int_max}
-use Rattle.quant.specs.Interval.{Interval}
+use Rattle.quant.specs.Interval.{Interval, around, widest}
 use Rattle.quant.specs.Rounding.{Rounding, quotient, divisor}
 
 -- ppm of a whole
 abbrev pub million : ℤ
 million = pos 1000000
+
+-- the ppm of a part of a whole
+abbrev pub ppm : Interval
+ppm = record { lo = pos 0; hi = million }
 
 -- the nearest number of the interval
 unfoldable pub clamp : Interval → ℤ → ℤ
@@ -72,29 +76,72 @@ unfoldable pub lookup : Rounding → List (ℤ × ℤ) → ℤ → ℤ
 lookup r [] t = pos 0
 lookup r (first ∷ rest) t = first.1 +ℤ risen r (first ∷ rest) t
 
--- the flows that are mixed: from 0 to 10^13
+-- the greatest size of a number that sums and differences take
+abbrev pub greatest_summand : ℕ
+greatest_summand = 4 * 10 ^ 18
+
+-- the greatest size of a content that is shared, blended or mixed, and of what a gain gives
+abbrev pub greatest_content : ℕ
+greatest_content = 10 ^ 16
+
+-- the greatest size of a number that a gain takes; the greatest flow that is mixed and volume that is blended
+abbrev pub greatest_amount : ℕ
+greatest_amount = 10 ^ 13
+
+-- the greatest size of a gain, and the greatest slope of a stage, in ppm
+abbrev pub steepest : ℕ
+steepest = 10 ^ 9
+
+-- where the numbers of sums and differences lie
+abbrev pub summands : Interval
+summands = around greatest_summand
+
+-- where the contents lie that are shared, blended or mixed
+abbrev pub contents : Interval
+contents = around greatest_content
+
+-- where the numbers lie that a gain takes
+abbrev pub amounts : Interval
+amounts = around greatest_amount
+
+-- the gains that there may be, in ppm
+abbrev pub gains : Interval
+gains = around steepest
+
+-- the flows that are mixed
 abbrev pub flows : Interval
-flows = record { lo = pos 0; hi = pos 10000000000000 }
+flows = record { lo = pos 0; hi = pos greatest_amount }
 
--- the volumes that a blend may have: from 1 to 10^13
+-- the volumes that a blend may have
 abbrev pub volumes : Interval
-volumes = record { lo = pos 1; hi = pos 10000000000000 }
+volumes = record { lo = pos 1; hi = pos greatest_amount }
 
--- the flows through a stage: from 0 to 10^12
+-- the flows through a stage
 abbrev pub stage_flows : Interval
-stage_flows = record { lo = pos 0; hi = pos 1000000000000 }
+stage_flows = record { lo = pos 0; hi = pos widest }
 
--- the holdups of a stage: from 1 to 10^12
+-- the holdups of a stage
 abbrev pub holdups : Interval
-holdups = record { lo = pos 1; hi = pos 1000000000000 }
+holdups = record { lo = pos 1; hi = pos widest }
 
--- the slopes of a stage in ppm: from 0 to 10^9
+-- the slopes of a stage in ppm
 abbrev pub slopes : Interval
-slopes = record { lo = pos 0; hi = pos 1000000000 }
+slopes = record { lo = pos 0; hi = pos steepest }
 
--- what contents are weighed by: from 0 to 10^18
+-- the greatest holdup of a stage in millionths
+abbrev pub heaviest : ℕ
+heaviest = widest * 10 ^ 6
+
+-- what the contents of a stage are weighed by: millionths of its holdup
 abbrev pub weights : Interval
-weights = record { lo = pos 0; hi = pos 1000000000000000000 }
+weights = record { lo = pos 0; hi = pos heaviest }
+
+-- what a stage may come to hold: twice the greatest content
+abbrev pub greatest_stage_content : ℕ
+greatest_stage_content = 2 * greatest_content
+
+abbrev pub stage_contents : Interval
+stage_contents = around greatest_stage_content
 
 -- no more leaves a stage in a tick than it holds, and no more vapour passes it
 pub record IsDrainable (holdup slope l v : ℤ) : Type 0 where

@@ -1,12 +1,12 @@
 -- Tables of rates by temperature.
-use Rattle.std.specs.Prelude.{◌≤◌, ℤ, pos, ◌≤ℤ◌, ◌<ℤ◌, List, [], ◌∷◌, length}
+use Rattle.std.specs.Prelude.{◌≤◌, ℤ, ◌≤ℤ◌, ◌<ℤ◌, List, [], ◌∷◌, length}
 use Rattle.std.specs.List.{All}
 use Rattle.quant.specs.Interval.{Interval, Holds}
-use Rattle.quant.specs.Operation.{million}
+use Rattle.quant.specs.Operation.{ppm}
 
--- the rates that a table may give: from 0 to 1,000,000 ppm
+-- the rates that a table may give
 abbrev pub rates : Interval
-rates = record { lo = pos 0; hi = million }
+rates = ppm
 
 -- the rate of a point is one of these
 abbrev pub HasRate : ℤ × ℤ → Type 0

@@ -33,11 +33,14 @@ value r states inputs (sum t u) = value r states inputs t +ℤ value r states in
 value r states inputs (difference t u) = value r states inputs t -ℤ value r states inputs u
 value r states inputs (share_of t u) = share r (value r states inputs t) (value r states inputs u)
 value r states inputs (rest_of t u) = keep r (value r states inputs t) (value r states inputs u)
-value r states inputs (blend_of t u v w) = blend r (value r states inputs t) (value r states inputs u) (value r states inputs v) (value r states inputs w)
+value r states inputs (blend_of t u v w) = blend r (value r states inputs t) (value r states inputs u)
+    (value r states inputs v) (value r states inputs w)
 value r states inputs (gain_of k t) = gain r k (value r states inputs t)
-value r states inputs (mix_of t u v w) = mix r (value r states inputs t) (value r states inputs u) (value r states inputs v) (value r states inputs w)
+value r states inputs (mix_of t u v w) = mix r (value r states inputs t) (value r states inputs u)
+    (value r states inputs v) (value r states inputs w)
 value r states inputs (tray_of holdup slope t u v w z) =
-    tray r holdup slope (value r states inputs t) (value r states inputs u) (value r states inputs v) (value r states inputs w) (value r states inputs z)
+    tray r holdup slope (value r states inputs t) (value r states inputs u) (value r states inputs v)
+    (value r states inputs w) (value r states inputs z)
 value r states inputs (lookup_of points t) = lookup r points (value r states inputs t)
 value r states inputs (clamped limits t) = clamp limits (value r states inputs t)
 
@@ -50,11 +53,14 @@ interval r states inputs (sum t u) = hull2 ◌+ℤ◌ (interval r states inputs 
 interval r states inputs (difference t u) = hull2 ◌-ℤ◌ (interval r states inputs t) (interval r states inputs u)
 interval r states inputs (share_of t u) = hull2 (share r) (interval r states inputs t) (interval r states inputs u)
 interval r states inputs (rest_of t u) = hull2 (keep r) (interval r states inputs t) (interval r states inputs u)
-interval r states inputs (blend_of t u v w) = hull4 (blend r) (interval r states inputs t) (interval r states inputs u) (interval r states inputs v) (interval r states inputs w)
+interval r states inputs (blend_of t u v w) = hull4 (blend r) (interval r states inputs t) (interval r states inputs u)
+    (interval r states inputs v) (interval r states inputs w)
 interval r states inputs (gain_of k t) = hull1 (gain r k) (interval r states inputs t)
-interval r states inputs (mix_of t u v w) = hull4 (mix r) (interval r states inputs t) (interval r states inputs u) (interval r states inputs v) (interval r states inputs w)
+interval r states inputs (mix_of t u v w) = hull4 (mix r) (interval r states inputs t) (interval r states inputs u)
+    (interval r states inputs v) (interval r states inputs w)
 interval r states inputs (tray_of holdup slope t u v w z) =
-    hull5 (tray r holdup slope) (interval r states inputs t) (interval r states inputs u) (interval r states inputs v) (interval r states inputs w) (interval r states inputs z)
+    hull5 (tray r holdup slope) (interval r states inputs t) (interval r states inputs u) (interval r states inputs v)
+    (interval r states inputs w) (interval r states inputs z)
 interval r states inputs (lookup_of points t) = hull1 (lookup r points) (interval r states inputs t)
 interval r states inputs (clamped limits t) = hull1 (clamp limits) (interval r states inputs t)
 

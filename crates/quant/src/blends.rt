@@ -1,8 +1,8 @@
 ghost use Rattle.std.specs.Prelude.{◌≡◌, pos};
-ghost use Rattle.quant.specs.Interval.{Holds, IsInside, around, join, point};
+ghost use Rattle.quant.specs.Interval.{Holds, IsInside, join, point};
 ghost use Rattle.quant.specs.Hull.{hull4, IsHull, IsValue4};
 ghost use Rattle.quant.specs.Rounding.{Floor};
-ghost use Rattle.quant.specs.Operation.{blend, volumes};
+ghost use Rattle.quant.specs.Operation.{blend, contents, volumes};
 
 use crate::band::Band;
 use crate::ends::opposite_ends;
@@ -11,8 +11,8 @@ use crate::quotients::floor_quotient;
 /// What a volume `v` at `c` becomes when `m` of it is replaced at `d`, rounded down:
 /// floor((c (v - m') + d m') / v), where m' is `m` clamped to 0..v.
 pub fn blend(c: i64, d: i64, m: i64, v: i64) -> i64
-    requires old { Holds (around 10000000000000000) c }
-    requires added { Holds (around 10000000000000000) d }
+    requires old { Holds contents c }
+    requires added { Holds contents d }
     requires volume { Holds volumes v }
     ensures value { result ≡ blend Floor c d m v }
     ensures between { Holds (join (point c) (point d)) result }
@@ -25,8 +25,8 @@ pub fn blend(c: i64, d: i64, m: i64, v: i64) -> i64
 /// `blend` over bands. It rises with `c` and `d`; where `d` is not below `c` it rises with `m` and
 /// falls with `v`, and else the other way.
 pub fn blend_band(c: Band, d: Band, m: Band, v: Band) -> Band
-    requires old { IsInside c (around 10000000000000000) }
-    requires added { IsInside d (around 10000000000000000) }
+    requires old { IsInside c contents }
+    requires added { IsInside d contents }
     requires volume { IsInside v volumes }
     ensures hull { result ≡ hull4 (blend Floor) c d m v }
     ensures exact { IsHull (IsValue4 (blend Floor) c d m v) result }

@@ -14,6 +14,7 @@ mod mixes;
 mod quotients;
 mod rate_table;
 mod shares;
+mod sizes;
 mod sums;
 mod trays;
 
@@ -30,9 +31,7 @@ pub use limits::Limits;
 pub use lookups::{lookup, lookup_band};
 pub use mixes::{mix, mix_band};
 pub use rate_table::RateTable;
-pub use shares::{MILLION, keep, keep_band, share, share_band};
+pub use shares::{keep, keep_band, share, share_band};
+pub use sizes::{MILLION, STEEPEST, WIDEST};
 pub use sums::{add, add_band, sub, sub_band};
 pub use trays::{tray, tray_band};
-
-#[cfg(test)]
-mod tests;

@@ -1,7 +1,7 @@
 ghost use Rattle.std.specs.Prelude.{◌≡◌, ◌↔◌, IsTrue, IsSome, IfSome, All};
 ghost use Rattle.quant.specs.Table.{IsTable, HasRate, IsStep, AreSteps};
 
-use crate::shares::MILLION;
+use crate::sizes::MILLION;
 use std::marker::Model;
 
 /// Rates by temperature: points of a temperature (mK) and the rate there (ppm).

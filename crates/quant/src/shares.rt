@@ -1,18 +1,17 @@
-ghost use Rattle.std.specs.Prelude.{◌≡◌, pos, ◌≤ℤ◌, ◌<ℤ◌};
-ghost use Rattle.quant.specs.Interval.{Holds, IsInside, around, join, point};
+ghost use Rattle.std.specs.Prelude.{◌≡◌, pos};
+ghost use Rattle.quant.specs.Interval.{Holds, IsInside, join, point};
 ghost use Rattle.quant.specs.Hull.{hull2, IsHull, IsValue2};
 ghost use Rattle.quant.specs.Rounding.{Floor};
-ghost use Rattle.quant.specs.Operation.{share, keep};
+ghost use Rattle.quant.specs.Operation.{share, keep, contents};
+ghost use Rattle.quant.specs.Picks.{IsPicked};
 
 use crate::band::Band;
 use crate::quotients::floor_quotient;
-
-/// The ppm of a whole.
-pub const MILLION: i64 = 1_000_000;
+use crate::sizes::MILLION;
 
 /// `g` ppm of `a`, rounded down: floor(a g' / 1,000,000), where g' is `g` clamped to 0..1,000,000.
 pub fn share(a: i64, g: i64) -> i64
-    requires { Holds (around 10000000000000000) a }
+    requires { Holds contents a }
     ensures value { result ≡ share Floor a g }
     ensures between { Holds (join (point (pos 0)) (point a)) result }
 {
@@ -22,7 +21,7 @@ pub fn share(a: i64, g: i64) -> i64
 
 /// What stays of `a` when `share(a, g)` is taken from it.
 pub fn keep(a: i64, g: i64) -> i64
-    requires { Holds (around 10000000000000000) a }
+    requires { Holds contents a }
     ensures value { result ≡ keep Floor a g }
     ensures between { Holds (join (point (pos 0)) (point a)) result }
 {
@@ -31,7 +30,7 @@ pub fn keep(a: i64, g: i64) -> i64
 
 /// `share` over bands. It rises with `a`, and with `g` where `a` is not negative.
 pub fn share_band(a: Band, g: Band) -> Band
-    requires { IsInside a (around 10000000000000000) }
+    requires { IsInside a contents }
     ensures hull { result ≡ hull2 (share Floor) a g }
     ensures exact { IsHull (IsValue2 (share Floor) a g) result }
     ensures between { IsInside result (join (point (pos 0)) a) }
@@ -44,7 +43,7 @@ pub fn share_band(a: Band, g: Band) -> Band
 
 /// `keep` over bands. It rises with `a`, and falls with `g` where `a` is not negative.
 pub fn keep_band(a: Band, g: Band) -> Band
-    requires { IsInside a (around 10000000000000000) }
+    requires { IsInside a contents }
     ensures hull { result ≡ hull2 (keep Floor) a g }
     ensures exact { IsHull (IsValue2 (keep Floor) a g) result }
     ensures between { IsInside result (join (point (pos 0)) a) }
@@ -57,8 +56,7 @@ pub fn keep_band(a: Band, g: Band) -> Band
 
 /// `upper` where `a` is not negative, and else `lower`.
 pub(crate) fn by_sign(a: i64, upper: i64, lower: i64) -> i64
-    ensures not_negative { pos 0 ≤ℤ a → result ≡ upper }
-    ensures negative { a <ℤ pos 0 → result ≡ lower }
+    ensures { IsPicked (pos 0) a upper lower result }
 {
     if a >= 0 { upper } else { lower }
 }

@@ -1,13 +1,14 @@
 ghost use Rattle.std.specs.Prelude.{◌≡◌, ◌+ℤ◌, ◌-ℤ◌};
-ghost use Rattle.quant.specs.Interval.{Holds, IsInside, around};
+ghost use Rattle.quant.specs.Interval.{Holds, IsInside};
 ghost use Rattle.quant.specs.Hull.{hull2, IsHull, IsValue2};
+ghost use Rattle.quant.specs.Operation.{summands};
 
 use crate::band::Band;
 
 /// `a + b`.
 pub fn add(a: i64, b: i64) -> i64
-    requires left { Holds (around 4000000000000000000) a }
-    requires right { Holds (around 4000000000000000000) b }
+    requires left { Holds summands a }
+    requires right { Holds summands b }
     ensures { result ≡ a +ℤ b }
 {
     a + b
@@ -15,8 +16,8 @@ pub fn add(a: i64, b: i64) -> i64
 
 /// `a - b`.
 pub fn sub(a: i64, b: i64) -> i64
-    requires left { Holds (around 4000000000000000000) a }
-    requires right { Holds (around 4000000000000000000) b }
+    requires left { Holds summands a }
+    requires right { Holds summands b }
     ensures { result ≡ a -ℤ b }
 {
     a - b
@@ -24,8 +25,8 @@ pub fn sub(a: i64, b: i64) -> i64
 
 /// `add` over bands.
 pub fn add_band(a: Band, b: Band) -> Band
-    requires left { IsInside a (around 4000000000000000000) }
-    requires right { IsInside b (around 4000000000000000000) }
+    requires left { IsInside a summands }
+    requires right { IsInside b summands }
     ensures hull { result ≡ hull2 ◌+ℤ◌ a b }
     ensures exact { IsHull (IsValue2 ◌+ℤ◌ a b) result }
 {
@@ -37,8 +38,8 @@ pub fn add_band(a: Band, b: Band) -> Band
 
 /// `sub` over bands.
 pub fn sub_band(a: Band, b: Band) -> Band
-    requires left { IsInside a (around 4000000000000000000) }
-    requires right { IsInside b (around 4000000000000000000) }
+    requires left { IsInside a summands }
+    requires right { IsInside b summands }
     ensures hull { result ≡ hull2 ◌-ℤ◌ a b }
     ensures exact { IsHull (IsValue2 ◌-ℤ◌ a b) result }
 {

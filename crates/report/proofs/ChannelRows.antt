@@ -1,5 +1,6 @@
 -- The rows of a stream's channels, one after another.
-use Rattle.std.proofs.Common.{◌≡◌, ℕ, ◌+◌, ◌<◌, ◌≤◌, min, List, [], ◌∷◌, ◌++◌, length, map, get_or, drop, Bor, refl, sym, ap, ◌∙◌, append_assoc, append-nil, add-one, arith}
+use Rattle.std.proofs.Common.{◌≡◌, ℕ, ◌+◌, ◌<◌, ◌≤◌, min, List, [], ◌∷◌, ◌++◌, length, map, get_or, drop, Bor, refl}
+use Rattle.std.proofs.Common.{sym, ap, ◌∙◌, append_assoc, append-nil, add-one, arith}
 use Rattle.std.proofs.Math.Seq.{drop-cons}
 use Rattle.std.proofs.lemmas.List.{length-map, length-drop}
 use Rattle.std.specs.Prelude.{decimal}
@@ -9,22 +10,27 @@ use Rattle.report.specs.Line.{line}
 use Rattle.report.specs.Output.{row, channel_rows}
 
 -- the rows from a place on: the row of this place, and those behind it
-channel_rows-at : (tick : ℕ) (name : List ℕ) (channels : List (Bor (List ℕ))) (bands : List Interval) (i : ℕ) (c : Bor (List ℕ)) (b : Interval) →
+channel_rows-at : (tick : ℕ) (name : List ℕ) (channels : List (Bor (List ℕ))) (bands : List Interval) (i : ℕ)
+    (c : Bor (List ℕ)) (b : Interval) →
     i < length channels → i < length bands →
     channel_rows tick name (map (λ f. f.now) (drop i channels)) (drop i bands)
-    ≡ row tick name (get_or channels i c).now (get_or bands i b) ++ channel_rows tick name (map (λ f. f.now) (drop (i + 1) channels)) (drop (i + 1) bands)
+    ≡ row tick name (get_or channels i c).now (get_or bands i b)
+    ++ channel_rows tick name (map (λ f. f.now) (drop (i + 1) channels)) (drop (i + 1) bands)
 channel_rows-at tick name channels bands i c b h k = rw (drop-cons channels i c h, drop-cons bands i b k, add-one)
 
 -- the row of this place was added, so what is left begins at the next
-pub channel_rows-step : (tick : ℕ) (name text : List ℕ) (channels : List (Bor (List ℕ))) (bands : List Interval) (i : ℕ) (c : Bor (List ℕ)) (band : Interval) (before after all : List ℕ) →
+pub channel_rows-step : (tick : ℕ) (name text : List ℕ) (channels : List (Bor (List ℕ))) (bands : List Interval)
+    (i : ℕ) (c : Bor (List ℕ)) (band : Interval) (before after all : List ℕ) →
     i < length channels → i < length bands → band ≡ get_or bands i band → text ≡ decimal tick →
-    after ≡ before ++ line (text ∷ name ∷ (get_or channels i c).now ∷ signed_decimal band.lo ∷ signed_decimal band.hi ∷ []) →
+    after ≡ before
+    ++ line (text ∷ name ∷ (get_or channels i c).now ∷ signed_decimal band.lo ∷ signed_decimal band.hi ∷ []) →
     before ++ channel_rows tick name (map (λ f. f.now) (drop i channels)) (drop i bands) ≡ all →
     after ++ channel_rows tick name (map (λ f. f.now) (drop (i + 1) channels)) (drop (i + 1) bands) ≡ all
 unfolding row
 channel_rows-step tick name text channels bands i c band before after all h k at_place digits added whole =
     let rest = channel_rows tick name (map (λ f. f.now) (drop (i + 1) channels)) (drop (i + 1) bands) in
-    let same : row tick name (get_or channels i c).now (get_or bands i band) ≡ line (text ∷ name ∷ (get_or channels i c).now ∷ signed_decimal band.lo ∷ signed_decimal band.hi ∷ []) =
+    let same : row tick name (get_or channels i c).now (get_or bands i band)
+    ≡ line (text ∷ name ∷ (get_or channels i c).now ∷ signed_decimal band.lo ∷ signed_decimal band.hi ∷ []) =
     rw (digits, ← at_place) in
     ap (λ l. l ++ rest) (added ∙ ap (λ l. before ++ l) (sym same)) ∙ append_assoc before _ rest
     ∙ ap (λ l. before ++ l) (sym (channel_rows-at tick name channels bands i c band h k)) ∙ whole
@@ -37,7 +43,8 @@ channel_rows-none tick name (channel ∷ rest) [] none = refl
 channel_rows-none tick name (channel ∷ rest) (band ∷ bands) none = absurd (omega arith)
 
 -- no row is left where the channels or the bands are at their end
-pub channel_rows-end : (tick : ℕ) (name : List ℕ) (channels : List (Bor (List ℕ))) (bands : List Interval) (i n : ℕ) (before all : List ℕ) →
+pub channel_rows-end : (tick : ℕ) (name : List ℕ) (channels : List (Bor (List ℕ))) (bands : List Interval) (i n : ℕ)
+    (before all : List ℕ) →
     n ≡ min (length channels) (length bands) → n ≤ i →
     before ++ channel_rows tick name (map (λ f. f.now) (drop i channels)) (drop i bands) ≡ all → before ≡ all
 channel_rows-end tick name channels bands i n before all least over whole =

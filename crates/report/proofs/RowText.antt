@@ -5,7 +5,8 @@ use Rattle.report.specs.Line.{comma, line_feed, joined, line}
 use Rattle.report.specs.Writer.{table_writer}
 
 -- fields with a comma before each but the first
-fields_text-joined : (field : List ℕ) (rest : List (List ℕ)) → field ++ fields_text table_writer rest ≡ joined (field ∷ rest)
+fields_text-joined : (field : List ℕ) (rest : List (List ℕ)) → field ++ fields_text table_writer rest
+    ≡ joined (field ∷ rest)
 unfolding fields_text
 fields_text-joined field [] = append-nil field
 fields_text-joined field (next ∷ rest) = ap (λ l. field ++ (comma ∷ l)) (fields_text-joined next rest)

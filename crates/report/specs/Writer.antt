@@ -1,8 +1,10 @@
+-- Words of the proofs: a reader of the contracts needs none of them.
 -- How the rows' writer is set up, and what stands in it between two rows.
 use Rattle.std.specs.Prelude.{◌≡◌, ℕ, true, false, None, List, ◌++◌}
 use Rattle.std.specs.declared.vec.Vec.{Vec}
 use Rattle.std.specs.declared.alloc.Global.{Global}
-use Rattle.csv.specs.Writing.{quote_mark, backslash, writer_setup, writer_under, writer_pending, fields_written, has_written}
+use Rattle.csv.specs.Writing.{quote_mark, backslash, writer_setup, writer_under, writer_pending, fields_written}
+use Rattle.csv.specs.Writing.{has_written}
 use Rattle.csv.specs.declared.parser.Terminator.TheVariants as term
 use Rattle.csv.specs.declared.writer.QuoteStyle.TheVariants as style
 use Rattle.csv.specs.declared.writer.WriterBuilder.{WriterBuilder}
@@ -11,7 +13,17 @@ use Rattle.report.specs.Line.{comma, line_feed}
 
 -- commas, line feeds, no quotes, and rows of any lengths
 abbrev pub table_writer : WriterBuilder
-table_writer = record { delimiter = comma; quote = quote_mark; escape = backslash; double_quote = true; style = style.Never; terminator = term.Any line_feed; flexible = true; comment = None; has_headers = true }
+table_writer = record {
+  delimiter = comma;
+  quote = quote_mark;
+  escape = backslash;
+  double_quote = true;
+  style = style.Never;
+  terminator = term.Any line_feed;
+  flexible = true;
+  comment = None;
+  has_headers = true;
+}
 
 -- the bytes written so far: what the vector holds, and then the buffer
 abbrev pub text_so_far : Writer (Vec ℕ Global) → List ℕ

@@ -1,5 +1,6 @@
 -- Ranks that rise: what they keep, where they rest, and a loop where they do not.
-use Rattle.std.proofs.Common.{◌≡◌, ◌≢◌, ℕ, zero, suc, ◌*◌, ◌<◌, ◌≤◌, ◌⊎◌, true, false, sum, List, length, set, slice_index, Contains, All, refl, sym, ap, ◌∙◌, subst, inl, inr, arith}
+use Rattle.std.proofs.Common.{◌≡◌, ◌≢◌, ℕ, zero, suc, ◌*◌, ◌<◌, ◌≤◌, ◌⊎◌, true, false, sum, List, length, set}
+use Rattle.std.proofs.Common.{slice_index, Contains, All, refl, sym, ap, ◌∙◌, subst, inl, inr, arith}
 use Rattle.std.proofs.lemmas.Bool.{cases_eq, cases_Bool, false≢true}
 use Rattle.std.proofs.lemmas.List.{get_or_default, get_or-set_same, get_or-set_other, length-set}
 use Rattle.std.proofs.lemmas.List.Sums.{sum_by-le}
@@ -26,13 +27,15 @@ unfolding node
 node_start links zero u c = refl
 node_start links (suc k) u c = refl
 
-node_instant : (links : LinkLists) (k u : ℕ) (c : Chain links k u) (i : ℕ) → is_instant links (node links k u c i) ≡ true
+node_instant : (links : LinkLists) (k u : ℕ) (c : Chain links k u) (i : ℕ) → is_instant links (node links k u c i)
+    ≡ true
 unfolding node
 node_instant links zero u c i = c
 node_instant links (suc k) u c zero = c.1.from
 node_instant links (suc k) u c (suc i) = node_instant links k c.0 c.2 i
 
-node_after : (links : LinkLists) (k u : ℕ) (c : Chain links k u) (j : ℕ) → j < k → Path links u (node links k u c (suc j))
+node_after : (links : LinkLists) (k u : ℕ) (c : Chain links k u) (j : ℕ) → j < k →
+    Path links u (node links k u c (suc j))
 unfolding node
 node_after links zero u c j h = absurd (omega arith)
 node_after links (suc k) u c zero h = subst (λ w. Path links u w) (sym (node_start links k c.0 c.2)) (link u c.0 c.1)
@@ -53,8 +56,11 @@ pub loop_in : (links : LinkLists) (u : ℕ) → Chain links (length links.instan
 loop_in links u c =
     let n = length links.instant in
     let f : ℕ → ℕ = λ i. node links n u c i in
-    let t : IsTwice f (suc n) = pigeon n f (λ i h. instant_there links (f i) (node_instant links n u c i)) in
-    (f t.first, subst (λ w. Path links (f t.first) w) (sym t.same) (node_path links n u c t.first t.second t.before t.within))
+    let t : IsTwice f (suc n) = pigeon n f (λ i h. instant_there links (f i) (node_instant links n u c i)) in (
+      f t.first,
+      subst (λ w. Path links (f t.first) w) (sym t.same)
+          (node_path links n u c t.first t.second t.before t.within),
+    )
 
 -- the greatest rank that a unit reads stands on a chain from the unit
 pub chain_on : (links : LinkLists) (ranks : List ℕ) (u g : ℕ) → AreRising links ranks → is_instant links u ≡ true →
@@ -70,7 +76,8 @@ chain_on links ranks u (suc k) h i e = elim (greatest_is (λ v. slice_index rank
 -- where it is as many as there are units, there is a loop
 pub endless : (links : LinkLists) (ranks : List ℕ) (u g n : ℕ) → AreRising links ranks → is_instant links u ≡ true →
     g ≡ greatest ranks (reads_of links u) → g ≡ n → n ≡ length links.instant → HasLoop links
-endless links ranks u g n h i e f m = loop_in links u (subst (λ k. Chain links k u) (f ∙ m) (chain_on links ranks u g h i e))
+endless links ranks u g n h i e f m =
+    loop_in links u (subst (λ k. Chain links k u) (f ∙ m) (chain_on links ranks u g h i e))
 
 -- a rank is 0 or not
 zero_or : (m : ℕ) → (m ≡ 0) ⊎ ((k : ℕ) × (m ≡ suc k))
@@ -94,7 +101,8 @@ register_right links ranks u h e = record {
 -- the greatest that a unit reads is at most the number of units
 pub greatest_few : (links : LinkLists) (ranks : List ℕ) (units : List ℕ) → AreRising links ranks →
     greatest ranks units ≤ length links.instant
-greatest_few links ranks units h = greatest_within (λ v. slice_index ranks v) 0 (length links.instant) units (omega arith) h.few
+greatest_few links ranks units h =
+    greatest_within (λ v. slice_index ranks v) 0 (length links.instant) units (omega arith) h.few
 
 -- a rank that is raised by what its unit reads rises on
 pub raised_rise : (links : LinkLists) (ranks : List ℕ) (u g : ℕ) → AreRising links ranks → u < length links.instant →
@@ -102,9 +110,11 @@ pub raised_rise : (links : LinkLists) (ranks : List ℕ) (u g : ℕ) → AreRisi
     g ≡ greatest ranks (reads_of links u) → g ≢ length links.instant → AreRising links (set ranks u (suc g))
 raised_rise links ranks u g h l i e ne =
     let new = set ranks u (suc g) in
-    let same : (v : ℕ) → v ≡ u → slice_index new v ≡ suc g = λ v s. ap (λ w. slice_index new w) s ∙ get_or-set_same ranks u
+    let same : (v : ℕ) → v ≡ u → slice_index new v ≡ suc g = λ v s. ap (λ w. slice_index new w) s
+    ∙ get_or-set_same ranks u
     (suc g) 0 (omega (arith, h.counted)) in
-    let other : (v : ℕ) → v ≢ u → slice_index new v ≡ slice_index ranks v = λ v s. get_or-set_other ranks u v (suc g) 0 s in
+    let other : (v : ℕ) → v ≢ u → slice_index new v ≡ slice_index ranks v =
+    λ v s. get_or-set_other ranks u v (suc g) 0 s in
     let up : (v : ℕ) → slice_index ranks v ≤ slice_index new v
     = λ v. elim (cases_eq v u) [
       | inl s ↦ let b : slice_index ranks v ≤ suc g = subst (λ w. slice_index ranks w ≤ suc g) (sym s)
@@ -129,7 +139,8 @@ raised_rise links ranks u g h l i e ne =
       ];
     }
 
-pub few_ranks : (links : LinkLists) (ranks : List ℕ) → AreRising links ranks → All (λ rank. rank ≤ length links.instant) ranks
+pub few_ranks : (links : LinkLists) (ranks : List ℕ) → AreRising links ranks →
+    All (λ rank. rank ≤ length links.instant) ranks
 few_ranks links ranks h = λ k d l. subst (λ r. r ≤ length links.instant) (get_or_default ranks k 0 d l) (h.few k)
 
 -- the sum has a limit
@@ -151,7 +162,11 @@ all_right links ranks c h = record {
 pub read_below : (links : LinkLists) (ranks : List ℕ) (u v : ℕ) → AreRanks links ranks → is_instant links u ≡ true →
     Contains (reads_of links u) v → slice_index ranks v < slice_index ranks u
 read_below links ranks u v h i c =
-    omega (arith, h.instants u (instant_there links u i) i, value_below (λ w. slice_index ranks w) 0 (reads_of links u) v c)
+    omega (
+      arith,
+      h.instants u (instant_there links u i) i,
+      value_below (λ w. slice_index ranks w) 0 (reads_of links u) v c,
+    )
 
 pub path_below : (links : LinkLists) (ranks : List ℕ) (u v : ℕ) → AreRanks links ranks → Path links u v →
     slice_index ranks v < slice_index ranks u
@@ -177,7 +192,8 @@ agree links ranks others a h g (suc r) u b l = elim (cases_Bool (is_instant link
   | inr i ↦ h.registers u l i ∙ sym (g.registers u l i)
 ]
 
-pub unique : (links : LinkLists) (ranks others : List ℕ) → AreLinks links → AreRanks links ranks → AreRanks links others →
+pub unique : (links : LinkLists) (ranks others : List ℕ) → AreLinks links → AreRanks links ranks →
+    AreRanks links others →
     ranks ≡ others
 unique links ranks others a h g =
     same_number_lists ranks others (h.counted ∙ sym g.counted)

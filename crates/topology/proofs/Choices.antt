@@ -1,4 +1,5 @@
--- What is decided by looking: whether a list holds a number, which of a list's numbers has a property, and which number is the first.
+-- What is decided by looking: whether a list holds a number, which of a list's numbers has a property, and which
+-- number is the first.
 use Rattle.std.proofs.Common.{◌≡◌, ◌<◌, ◌⊎◌, ℕ, zero, suc, List, [], ◌∷◌, Contains, sym, subst, inl, inr, arith}
 use Rattle.std.proofs.lemmas.Bool.{cases_eq}
 use Rattle.topology.proofs.Maxima.{contains_first, contains_rest}
@@ -53,7 +54,8 @@ none_or_first P d zero = inl (λ v h. absurd (omega arith))
 none_or_first P d (suc n) = elim (none_or_first P d n) [
   | inl none ↦ elim (d n) [
     | inl p ↦ inr (n, record { holds = p; first = none })
-    | inr not ↦ inl (λ v h. elim (cases_eq v n) [ inl e ↦ subst (λ w. ¬ P w) (sym e) not | inr ne ↦ none v (omega arith) ])
+    | inr not ↦ inl (λ v h. elim (cases_eq v n)
+        [ inl e ↦ subst (λ w. ¬ P w) (sym e) not | inr ne ↦ none v (omega arith) ])
   ]
   | inr one ↦ inr one
 ]

@@ -1,5 +1,6 @@
 -- Ranks are those that are found by looking back, and where these are none a unit reaches itself.
-use Rattle.std.proofs.Common.{◌≡◌, ℕ, zero, suc, ◌<◌, ◌≤◌, ◌⊎◌, false, List, length, slice_index, refl, sym, ap, ◌∙◌, inl, inr, arith}
+use Rattle.std.proofs.Common.{◌≡◌, ℕ, zero, suc, ◌<◌, ◌≤◌, ◌⊎◌, false, List, length, slice_index, refl, sym, ap, ◌∙◌}
+use Rattle.std.proofs.Common.{inl, inr, arith}
 use Rattle.std.proofs.lemmas.Bool.{cases_Bool, cases_lt}
 use Rattle.std.proofs.lemmas.List.{get_or_past}
 use Rattle.std.proofs.lemmas.List.FromFn.{fill_by_all, length-map-range_with_len, get_or-map-range_with_len}
@@ -12,7 +13,8 @@ use Rattle.topology.proofs.Choices.{all_or_one, below_or_one}
 use Rattle.topology.proofs.Ways.{first_loop}
 
 -- a unit's rank is found by looking back as far as it is, or further
-found : (links : LinkLists) (ranks : List ℕ) → AreLinks links → AreRanks links ranks → (n u : ℕ) → u < length links.instant → slice_index ranks u ≤ n →
+found : (links : LinkLists) (ranks : List ℕ) → AreLinks links → AreRanks links ranks → (n u : ℕ) →
+    u < length links.instant → slice_index ranks u ≤ n →
     slice_index ranks u ≡ rank_within links n u
 found links ranks a h zero u l b = omega arith
 found links ranks a h (suc n) u l b = elim (cases_Bool (is_instant links u)) [
@@ -32,13 +34,16 @@ all-found links ranks a h few =
     (λ u l. found links ranks a h (length links.instant) u l (few u))
 
 -- a rank that rises where one more step back is looked at stands on a chain of as many links as there were steps
-settled_or_chain : (links : LinkLists) (n u : ℕ) → (rank_within links (suc n) u ≡ rank_within links n u) ⊎ Chain links n u
+settled_or_chain : (links : LinkLists) (n u : ℕ) →
+    (rank_within links (suc n) u ≡ rank_within links n u) ⊎ Chain links n u
 settled_or_chain links zero u = elim (cases_Bool (is_instant links u)) [ inl i ↦ inr i | inr i ↦ inl (rw i refl) ]
 settled_or_chain links (suc n) u = elim (cases_Bool (is_instant links u)) [
-  | inl i ↦ elim (all_or_one (λ v. rank_within links (suc n) v ≡ rank_within links n v) (Chain links n) (settled_or_chain links n) (reads_of links u)) [
-    | inl same ↦ inl (rw i (ap suc (greatest_alike (rank_within links (suc n)) (rank_within links n) 0 (reads_of links u) same)))
-    | inr one ↦ inr (one.0, record { from = i; to = chain_from links n one.0 one.2; reads = one.1 }, one.2)
-  ]
+  | inl i ↦ elim (all_or_one (λ v. rank_within links (suc n) v ≡ rank_within links n v) (Chain links n)
+      (settled_or_chain links n) (reads_of links u)) [
+        | inl same ↦ inl (rw i (ap suc
+            (greatest_alike (rank_within links (suc n)) (rank_within links n) 0 (reads_of links u) same)))
+        | inr one ↦ inr (one.0, record { from = i; to = chain_from links n one.0 one.2; reads = one.1 }, one.2)
+      ]
   | inr i ↦ inl (rw i refl)
 ]
 
@@ -59,7 +64,8 @@ rank_in links u =
 
 -- where no rank rises any more, they are the ranks
 settled_ranks : (links : LinkLists) →
-    ((u : ℕ) → u < length links.instant → rank_within links (suc (length links.instant)) u ≡ rank_within links (length links.instant) u) →
+    ((u : ℕ) → u < length links.instant →
+    rank_within links (suc (length links.instant)) u ≡ rank_within links (length links.instant) u) →
     AreRanks links (ranks_in links)
 unfolding ranks_in
 settled_ranks links settled = record {
@@ -67,14 +73,16 @@ settled_ranks links settled = record {
   registers = λ u h i. rank_in links u ∙ register_within links (length links.instant) u i;
   instants = λ u h i.
       rank_in links u ∙ sym (settled u h)
-      ∙ rw i (ap suc (greatest_alike (rank_within links (length links.instant)) (λ v. slice_index (ranks_in links) v) 0 (reads_of links u)
+      ∙ rw i (ap suc (greatest_alike (rank_within links (length links.instant)) (λ v. slice_index (ranks_in links) v) 0
+      (reads_of links u)
       (λ v c. sym (rank_in links v))));
 }
 
 pub ranks-or-first_loop : (links : LinkLists) → AreRanks links (ranks_in links) ⊎ ((u : ℕ) × IsFirstLoop links u)
 ranks-or-first_loop links =
     let n = length links.instant in
-    elim (below_or_one (λ u. rank_within links (suc n) u ≡ rank_within links n u) (Chain links n) (settled_or_chain links n) n) [
+    elim (below_or_one (λ u. rank_within links (suc n) u ≡ rank_within links n u) (Chain links n)
+    (settled_or_chain links n) n) [
       | inl settled ↦ inl (settled_ranks links settled)
       | inr one ↦ inr (first_loop links (loop_in links one.0 one.2))
     ]

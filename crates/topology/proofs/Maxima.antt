@@ -1,5 +1,6 @@
 -- The greatest of the values over a list.
-use Rattle.std.proofs.Common.{◌≡◌, ℕ, zero, suc, ◌<◌, ◌≤◌, ◌⊎◌, max, List, [], ◌∷◌, length, map, fold, slice_index_or, Contains, refl, ap, ◌∙◌, inl, inr, subst, arith}
+use Rattle.std.proofs.Common.{◌≡◌, ℕ, zero, suc, ◌<◌, ◌≤◌, ◌⊎◌, max, List, [], ◌∷◌, length, map, fold, slice_index_or}
+use Rattle.std.proofs.Common.{Contains, refl, ap, ◌∙◌, inl, inr, subst, arith}
 use Rattle.std.proofs.lemmas.Bool.{cases_lt}
 
 -- an element of the rest is one of the whole
@@ -13,7 +14,8 @@ fold_start : (a : ℕ) (xs : List ℕ) → a ≤ fold max a xs
 fold_start a [] = omega arith
 fold_start a (x ∷ xs) = let h : max a x ≤ fold max (max a x) xs = fold_start (max a x) xs in omega arith
 
-value_at : (f : ℕ → ℕ) (a : ℕ) (xs : List ℕ) (k d : ℕ) → k < length xs → f (slice_index_or xs k d) ≤ fold max a (map f xs)
+value_at : (f : ℕ → ℕ) (a : ℕ) (xs : List ℕ) (k d : ℕ) → k < length xs →
+    f (slice_index_or xs k d) ≤ fold max a (map f xs)
 value_at f a [] k d h = absurd (omega arith)
 value_at f a (x ∷ xs) zero d h = let g : max a (f x) ≤ fold max (max a (f x)) (map f xs) = fold_start (max a (f x))
     (map f xs) in omega arith
@@ -29,7 +31,8 @@ value_below f a xs v c =
 pub greatest_rises : (f g : ℕ → ℕ) (a b : ℕ) (xs : List ℕ) → a ≤ b → ((v : ℕ) → f v ≤ g v) → fold max a
     (map f xs) ≤ fold max b (map g xs)
 greatest_rises f g a b [] h r = h
-greatest_rises f g a b (x ∷ xs) h r = greatest_rises f g (max a (f x)) (max b (g x)) xs (let q : f x ≤ g x = r x in omega arith) r
+greatest_rises f g a b (x ∷ xs) h r =
+    greatest_rises f g (max a (f x)) (max b (g x)) xs (let q : f x ≤ g x = r x in omega arith) r
 
 -- values at most m have a greatest at most m
 pub greatest_within : (f : ℕ → ℕ) (a m : ℕ) (xs : List ℕ) → a ≤ m → ((v : ℕ) → f v ≤ m) → fold max a (map f xs) ≤ m

@@ -1,5 +1,6 @@
 -- Paths through instant units.
-use Rattle.std.proofs.Common.{◌≡◌, ℕ, ◌<◌, true, false, length, Contains, slice_index_or, All, List, subst, sym, ◌∙◌, inl, inr}
+use Rattle.std.proofs.Common.{◌≡◌, ℕ, ◌<◌, true, false, length, Contains, slice_index_or, All, List, subst, sym, ◌∙◌}
+use Rattle.std.proofs.Common.{inl, inr}
 use Rattle.std.proofs.lemmas.Bool.{cases_lt, false≢true}
 use Rattle.std.proofs.lemmas.List.{get_or_past, get_or_default}
 use Rattle.topology.specs.Links.{LinkLists, AreLinks, IsLink, Path, link, further, is_instant, reads_of}
@@ -22,13 +23,15 @@ path_to links u v (link _ _ l) = l.to
 path_to links u v (further _ x _ l p) = path_to links x v p
 
 -- what holds at the start of each link as at its end goes along a path
-pub along : (links : LinkLists) (P : ℕ → Type 0) → ((u v : ℕ) → P u → IsLink links u v → P v) → (u v : ℕ) → Path links u v →
+pub along : (links : LinkLists) (P : ℕ → Type 0) → ((u v : ℕ) → P u → IsLink links u v → P v) → (u v : ℕ) →
+    Path links u v →
     P u → P v
 along links P step u v (link _ _ l) h = step u v h l
 along links P step u v (further _ x _ l p) h = along links P step x v p (step u x h l)
 
 -- a unit that is read is there
-pub read_there : (links : LinkLists) (from : ℕ) (items : List ℕ) (k x : ℕ) → AreLinks links → from < length links.instant →
+pub read_there : (links : LinkLists) (from : ℕ) (items : List ℕ) (k x : ℕ) → AreLinks links →
+    from < length links.instant →
     items ≡ reads_of links from → k < length items → x ≡ slice_index_or items k x → x < length links.instant
 read_there links from items k x a l e h r = a.there from x l (subst (λ xs. Contains xs x) e (k, h, sym r))
 
@@ -36,4 +39,5 @@ pub reads_there : (links : LinkLists) (from n : ℕ) (items : List ℕ) → AreL
     items ≡ reads_of links from → n ≡ length links.instant → All (λ v. v < n) items
 reads_there links from n items a l e m =
     λ k d h. subst (λ i. slice_index_or items k d < i) (sym m)
-    (read_there links from items k (slice_index_or items k d) a l e h (get_or_default items k d (slice_index_or items k d) h))
+    (read_there links from items k (slice_index_or items k d) a l e h
+    (get_or_default items k d (slice_index_or items k d) h))

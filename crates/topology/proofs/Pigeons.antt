@@ -67,7 +67,8 @@ pigeon (suc n) f h = elim (hit f (f (suc n)) (suc n)) [
   | inr none ↦
       let w = f (suc n) in
       let t : IsTwice (λ i. moved n w (f i)) (suc n)
-      = pigeon n (λ i. moved n w (f i)) (λ i l. moved_below n w (f i) (h (suc n) (omega arith)) (h i (omega arith)) (none i l)) in
+      = pigeon n (λ i. moved n w (f i))
+      (λ i l. moved_below n w (f i) (h (suc n) (omega arith)) (h i (omega arith)) (none i l)) in
       let b = t.before in
       let l = t.within in
       record {

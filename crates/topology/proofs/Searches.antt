@@ -1,7 +1,9 @@
 -- A search for what a unit reaches: what each step keeps, and what is known at its end.
-use Rattle.std.proofs.Common.{◌≡◌, ℕ, ◌+◌, ◌<◌, ◌⊎◌, Bool, true, false, not, cond, count_by, List, [], ◌∷◌, ◌++◌, length, replicate, set, slice_index_or, Contains, sym, ◌∙◌, subst, inl, inr, arith}
+use Rattle.std.proofs.Common.{◌≡◌, ℕ, ◌+◌, ◌<◌, ◌⊎◌, Bool, true, false, not, cond, count_by, List, [], ◌∷◌, ◌++◌}
+use Rattle.std.proofs.Common.{length, replicate, set, slice_index_or, Contains, sym, ◌∙◌, subst, inl, inr, arith}
 use Rattle.std.proofs.lemmas.Bool.{cases_lt, cases_eq, false≢true}
-use Rattle.std.proofs.lemmas.List.{get_or_past, get_or-set_same, get_or-set_other, get_or-replicate, length-set, length-replicate, length_push}
+use Rattle.std.proofs.lemmas.List.{get_or_past, get_or-set_same, get_or-set_other, get_or-replicate, length-set}
+use Rattle.std.proofs.lemmas.List.{length-replicate, length_push}
 use Rattle.std.proofs.lemmas.List.Sums.{sum_by-set}
 use Rattle.std.proofs.lemmas.List.Elements.{Contains-append_left, Contains-push, Contains-push_cases}
 use Rattle.topology.specs.Links.{LinkLists, IsLink, Path, link, further, is_instant, reads_of}
@@ -18,7 +20,8 @@ none_marked n u m = elim (cases_lt u n) [
 marked_now : (reached : List Bool) (y : ℕ) → y < length reached → IsMarked (set reached y true) y
 marked_now reached y h = get_or-set_same reached y true false h
 
-marked_still : (reached : List Bool) (y v : ℕ) → y < length reached → IsMarked reached v → IsMarked (set reached y true) v
+marked_still : (reached : List Bool) (y v : ℕ) → y < length reached → IsMarked reached v →
+    IsMarked (set reached y true) v
 marked_still reached y v h m = elim (cases_eq v y) [
   | inl e ↦ subst (IsMarked (set reached y true)) (sym e) (marked_now reached y h)
   | inr ne ↦ get_or-set_other reached y v true false ne ∙ m
@@ -73,7 +76,8 @@ reaches_mark links seen before after waited waiting y r i h = record {
 }
 
 -- the work stays as it was
-pub work_mark : (reached : List Bool) (waiting : List ℕ) (y : ℕ) → y < length reached → slice_index_or reached y false ≡ false →
+pub work_mark : (reached : List Bool) (waiting : List ℕ) (y : ℕ) → y < length reached →
+    slice_index_or reached y false ≡ false →
     work (set reached y true) (waiting ++ y ∷ []) ≡ work reached waiting
 work_mark reached waiting y h e =
     let m : count_by not (set reached y true) + 1 ≡ count_by not reached + 0
@@ -82,22 +86,30 @@ work_mark reached waiting y h e =
     omega (arith, length_push waiting y)
 
 -- one more unit of the list was looked at
-pub record Looked (links : LinkLists) (seen : List ℕ) (before after : List Bool) (waited waiting : List ℕ) : Type 0 where
-  pub reaches : Reaches links seen before after waited waiting
-  pub work : work after waiting ≡ work before waited
+pub record Looked (links : LinkLists) (seen : List ℕ) (before after : List Bool) (waited waiting : List ℕ) : Type 0
+  where
+    pub reaches : Reaches links seen before after waited waiting
+    pub work : work after waiting ≡ work before waited
 
-pub looked_skip : (links : LinkLists) (seen now : List ℕ) (before after last : List Bool) (waited waiting still : List ℕ)
+pub looked_skip : (links : LinkLists) (seen now : List ℕ) (before after last : List Bool)
+    (waited waiting still : List ℕ)
     (y : ℕ) →
     Looked links seen before after waited waiting → now ≡ seen ++ y ∷ [] → last ≡ after → still ≡ waiting →
     (is_instant links y ≡ true → IsMarked after y) → Looked links now before last waited still
 looked_skip links seen now before after last waited waiting still y k e f g s =
     rw (e, f, g) (record { reaches = reaches_skip links seen before after waited waiting y k.reaches s; work = k.work })
 
-pub looked_mark : (links : LinkLists) (seen now : List ℕ) (before after last : List Bool) (waited waiting more : List ℕ) (y : ℕ) →
-    Looked links seen before after waited waiting → now ≡ seen ++ y ∷ [] → last ≡ set after y true → more ≡ waiting ++ y ∷ [] →
-    is_instant links y ≡ true → y < length after → slice_index_or after y false ≡ false → Looked links now before last waited more
+pub looked_mark : (links : LinkLists) (seen now : List ℕ) (before after last : List Bool)
+    (waited waiting more : List ℕ) (y : ℕ) →
+    Looked links seen before after waited waiting → now ≡ seen ++ y ∷ [] → last ≡ set after y true →
+    more ≡ waiting ++ y ∷ [] →
+    is_instant links y ≡ true → y < length after → slice_index_or after y false ≡ false →
+    Looked links now before last waited more
 looked_mark links seen now before after last waited waiting more y k e f g i h u =
-    rw (e, f, g) (record { reaches = reaches_mark links seen before after waited waiting y k.reaches i h; work = work_mark after waiting y h u ∙ k.work })
+    rw (e, f, g) (record {
+      reaches = reaches_mark links seen before after waited waiting y k.reaches i h;
+      work = work_mark after waiting y h u ∙ k.work;
+    })
 
 -- what a search knows
 pub record IsSearch (links : LinkLists) (unit : ℕ) (reached : List Bool) (waiting : List ℕ) : Type 0 where
@@ -107,7 +119,8 @@ pub record IsSearch (links : LinkLists) (unit : ℕ) (reached : List Bool) (wait
   pub right : (v : ℕ) → Contains waiting v → IsMarked reached v
   pub closed : (v w : ℕ) → IsMarked reached v → IsLink links v w → Contains waiting v ⊎ IsMarked reached w
 
-pub search_first : (links : LinkLists) (unit n : ℕ) (reached : List Bool) (waiting : List ℕ) → n ≡ length links.instant →
+pub search_first : (links : LinkLists) (unit n : ℕ) (reached : List Bool) (waiting : List ℕ) →
+    n ≡ length links.instant →
     is_instant links unit ≡ true →
     Reaches links (reads_of links unit) (replicate n false) reached [] waiting → IsSearch links unit reached waiting
 search_first links unit n reached waiting e i r = record {
@@ -134,7 +147,8 @@ search_next links unit next before after waited waiting s r =
       counted = r.counted ∙ s.counted;
       real = λ v m. elim (r.cause v m) [
         | inl b ↦ s.real v b
-        | inr p ↦ path_link links unit next v to_next (record { from = path_to links unit next to_next; to = p.0; reads = p.1 })
+        | inr p ↦ path_link links unit next v to_next
+            (record { from = path_to links unit next to_next; to = p.0; reads = p.1 })
       ];
       first = λ v l. r.kept v (s.first v l);
       right = λ v c. elim (r.right v c) [
@@ -154,7 +168,8 @@ search_next links unit next before after waited waiting s r =
     }
 
 reached_end : (links : LinkLists) (unit : ℕ) (reached : List Bool) → IsSearch links unit reached [] →
-    ((a b : ℕ) → IsMarked reached a → IsLink links a b → IsMarked reached b) → (v : ℕ) → Path links unit v → IsMarked reached v
+    ((a b : ℕ) → IsMarked reached a → IsLink links a b → IsMarked reached b) → (v : ℕ) → Path links unit v →
+    IsMarked reached v
 reached_end links unit reached s step v (link _ _ l) = s.first v l
 reached_end links unit reached s step v (further _ x _ l p) = along links (IsMarked reached) step x v p (s.first x l)
 

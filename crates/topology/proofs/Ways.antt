@@ -1,4 +1,5 @@
--- Whether a unit reaches another is decided by looking at paths whose units between lie below a number, for one number after another.
+-- Whether a unit reaches another is decided by looking at paths whose units between lie below a number, for one
+-- number after another.
 use Rattle.std.proofs.Common.{◌<◌, ◌⊎◌, ℕ, zero, suc, length, sym, ◌∙◌, subst, inl, inr, arith}
 use Rattle.std.proofs.lemmas.Bool.{cases_eq, cases_Bool, false≢true}
 use Rattle.topology.specs.Links.{LinkLists, IsLink, IsFirstLoop, Path, link, further, is_instant, reads_of}
@@ -63,7 +64,8 @@ from_last links n v (inr p) = p.1
 abbrev Meets : LinkLists → ℕ → Type 0
 Meets links n = (u w v : ℕ) → w < n → Way links n u w → Way links n w v → Way links n u v
 
-met : (links : LinkLists) (n u w v : ℕ) → Meets links n → w < n → Way links (suc n) u w → Way links (suc n) w v → Way links (suc n) u v
+met : (links : LinkLists) (n u w v : ℕ) → Meets links n → w < n → Way links (suc n) u w → Way links (suc n) w v →
+    Way links (suc n) u v
 unfolding Way
 met links n u w v meets h (inl a) (inl b) = inl (meets u w v h a b)
 met links n u w v meets h (inl a) (inr q) = inr (meets u w n h a q.0, q.1)
@@ -90,7 +92,8 @@ link_way links (suc n) u v l = inl (link_way links n u v l)
 way_of : (links : LinkLists) (u v : ℕ) → Path links u v → Way links (length links.instant) u v
 way_of links u v (link _ _ l) = link_way links (length links.instant) u v l
 way_of links u v (further _ x _ l p) =
-    meeting links (length links.instant) u x v (instant_there links x l.to) (link_way links (length links.instant) u x l)
+    meeting links (length links.instant) u x v (instant_there links x l.to)
+    (link_way links (length links.instant) u x l)
     (way_of links x v p)
 
 path_or : (links : LinkLists) (u v : ℕ) → Path links u v ⊎ (¬ Path links u v)

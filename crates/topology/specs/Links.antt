@@ -1,5 +1,6 @@
 -- Which units act at once, which units each reads, and the order of those that act at once.
-use Rattle.std.specs.Prelude.{◌≡◌, ◌<◌, ◌^◌, ℕ, suc, max, Bool, true, false, List, [], length, fold, map, Contains, slice_index, slice_index_or}
+use Rattle.std.specs.Prelude.{◌≡◌, ◌<◌, ◌^◌, ℕ, suc, max, Bool, true, false, List, [], length, fold, map, Contains}
+use Rattle.std.specs.Prelude.{slice_index, slice_index_or}
 
 -- for each unit whether it is instant, and the numbers of the units that it reads
 pub record LinkLists : Type 0 where

@@ -1,3 +1,4 @@
+-- Words of the proofs: a reader of the contracts needs none of them.
 -- Ranks on their way up from 0.
 use Rattle.std.specs.Prelude.{◌≡◌, ◌≤◌, ℕ, zero, suc, max, true, false, List, length, fold, map, slice_index}
 use Rattle.topology.specs.Links.{LinkLists, IsLink, Path, is_instant, reads_of}

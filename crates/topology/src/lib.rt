@@ -10,6 +10,3 @@ mod rise;
 pub use laws::{ranks_are_found, ranks_are_unique, ranks_or_first_loop};
 pub use links::Links;
 pub use ranking::{RankFault, ranks};
-
-#[cfg(test)]
-mod tests;

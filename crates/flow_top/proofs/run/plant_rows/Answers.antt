@@ -1,6 +1,6 @@
 use Rattle.std.proofs.Common.{ap, ◌∙◌, ◌+◌, add-one, [], slice_index_or}
 use Rattle.plant.specs.Rows.{HasStatesOf, stream_in}
-use Rattle.flow_top.proofs.StreamCount.{few-streams}
+use Rattle.plant_streams.proofs.Counts.{few_streams}
 use Rattle.flow_top.proofs.PlantRows.{rows-more}
 use Rattle.flow_top.proofs.run.plant_rows.Goals as goal
 
@@ -25,4 +25,6 @@ loop-tick-preserved c =
     }
 
 pub put_tick-requires-clause-few : goal.put_tick-requires-clause-few
-put_tick-requires-clause-few c = few-streams c.args.plant.now c.parts-parts.ensures.plant.ranges
+put_tick-requires-clause-few c =
+    let ranges = c.parts-parts.ensures.plant.ranges in
+    few_streams c.args.plant.now ranges.feeds.0 ranges.units.1

@@ -5,4 +5,5 @@ use Rattle.plant_checks.proofs.names.is_among.Given as goal
 
 -- the names that are left decide
 abbrev pub invariant-loop-other : goal.invariant-loop-other
-invariant-loop-other l = list_any (bytes_eq l.name) (map name_seen (drop l.other-index l.names)) ≡ list_any (bytes_eq l.name) (map name_seen l.names)
+invariant-loop-other l = list_any (bytes_eq l.name) (map name_seen (drop l.other-index l.names)) ≡ list_any
+    (bytes_eq l.name) (map name_seen l.names)

@@ -7,4 +7,5 @@ use Rattle.plant_units.proofs.made_units.inputs_of.Given as goal
 -- the numbers so far
 abbrev pub invariant-loop-reference : goal.invariant-loop-reference
 invariant-loop-reference l =
-    l.inputs.items ≡ map (λ reference. unwrap_or (number_of l.streams reference.name) 0) (map reference_seen (take l.reference-index l.reference-items))
+    l.inputs.items ≡ map (λ reference. unwrap_or (number_of l.streams reference.name) 0)
+    (map reference_seen (take l.reference-index l.reference-items))

@@ -3,4 +3,5 @@ use Rattle.std.proofs.lemmas.Iterator.{items_from_collect, YieldsList-from_range
 use Rattle.plant_units.proofs.made_units.numbers_from.Goals as goal
 
 pub returns : goal.returns
-returns c = items_from_collect _ c.collect.ensures.ran (YieldsList-from_range c.args.first (c.args.first + c.args.count) c.args.count refl (omega arith))
+returns c = items_from_collect _ c.collect.ensures.ran
+    (YieldsList-from_range c.args.first (c.args.first + c.args.count) c.args.count refl (omega arith))

@@ -15,8 +15,12 @@ loop-number-preserved c =
     let place = c.loop-number.place in
     let number = get_or numbers i 0 in
     let channels = c.as_slice-channels.result.now in
-    let known = gathering-known numbers streams i place c.loop-number.ins c.loop-number-test.true c.loop-number.invariant in
-    let e : channels ≡ bands_at streams number = c.as_slice-channels.ensures ∙ (c.index-streams-number.is ∙ get_or_default streams number _ _ known) in
+    let known =
+    gathering-known numbers streams i place c.loop-number.ins c.loop-number-test.true c.loop-number.invariant in
+    let e : channels ≡ bands_at streams number =
+    c.as_slice-channels.ensures ∙ (c.index-streams-number.is ∙ get_or_default streams number _ _ known) in
     let k = place + length channels - place in
-    subst (λ (ws : List Interval). IsGathering numbers streams (i + 1) (place + length channels) (put_mid place k c.loop-number.ins ws)) (sym c.copy_from_slice.ensures.after)
-    (gathering-more numbers streams i place k c.loop-number.ins channels c.loop-number-test.true c.loop-number.invariant e (omega arith))
+    subst (λ (ws : List Interval). IsGathering numbers streams (i + 1) (place + length channels)
+    (put_mid place k c.loop-number.ins ws)) (sym c.copy_from_slice.ensures.after)
+    (gathering-more numbers streams i place k c.loop-number.ins channels c.loop-number-test.true
+    c.loop-number.invariant e (omega arith))

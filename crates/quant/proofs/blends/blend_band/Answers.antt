@@ -1,75 +1,51 @@
-use Rattle.std.proofs.Common.{◌≡◌, to_z, of_z, rules, FitsSigned, arith, ap, ◌∙◌, subst}
-use Rattle.std.proofs.lemmas.Int.{ints, to_z-of_z}
+-- The least blend is that of the lower ends, and the greatest that of the upper ones, each at opposite ends of the other two.
+use Rattle.std.proofs.Common.{to_z, of_z, rules}
 use Rattle.std.specs.Int.{w64}
-use Rattle.quant.specs.Interval.{Interval, IsBand}
 use Rattle.quant.specs.Hull.{hull4, IsHull, IsValue4}
 use Rattle.quant.specs.Rounding.{Floor}
-use Rattle.quant.specs.Operation.{blend}
-use Rattle.quant.proofs.Calls.{given4}
-use Rattle.quant.proofs.Hulls.{one_hull, hull4-exact}
+use Rattle.quant.specs.Operation.{blend, contents}
+use Rattle.quant.proofs.Bands.{read-band, read-ends, read-high}
+use Rattle.quant.proofs.Hulls.{one_hull, hull4-exact, holds-band}
 use Rattle.quant.proofs.Operations.{blend-old, blend-added, blend-between, blend-monotone}
-use Rattle.quant.proofs.Corners.{blend-turned, turned-corners, picked-opposite, hull-inside_contents, hull-ordered, holds-band}
+use Rattle.quant.proofs.Corners.{blend-turned, turned-hull, hull-inside_contents, hull-ordered}
 use Rattle.quant.proofs.blends.blend_band.Goals as goal
 
-band-c : (c : goal.After-blend-2) → IsBand c.args.c
-band-c c = subst IsBand c.c.view_is (record { ordered = c.c.invariant })
-
-band-d : (c : goal.After-blend-2) → IsBand c.args.d
-band-d c = subst IsBand c.d.view_is (record { ordered = c.d.invariant })
-
--- the two ends are the least and the greatest blend
-exact : (c : goal.After-blend-2) →
-    IsHull (IsValue4 (blend Floor) c.args.c c.args.d c.args.m c.args.v) (record { lo = to_z w64 (of_z w64 c.blend.result); hi = to_z w64 (of_z w64 c.blend-2.result) })
+exact : (c : goal.After-blend-2) → IsHull (IsValue4 (blend Floor) c.args.c c.args.d c.args.m c.args.v)
+    (record { lo = to_z w64 (of_z w64 c.blend.result); hi = to_z w64 (of_z w64 c.blend-2.result) })
 exact c =
-    let a : FitsSigned w64 c.c.inside.lo = search rules in
-    let b : FitsSigned w64 c.c.inside.hi = search rules in
-    let f : FitsSigned w64 c.d.inside.lo = search rules in
-    let g : FitsSigned w64 c.d.inside.hi = search rules in
-    let c-lo : to_z w64 (of_z w64 c.c.inside.lo) ≡ c.args.c.lo = to_z-of_z w64 c.c.inside.lo a ∙ ap (λ (A : Interval). A.lo) c.c.view_is in
-    let c-hi : to_z w64 (of_z w64 c.c.inside.hi) ≡ c.args.c.hi = to_z-of_z w64 c.c.inside.hi b ∙ ap (λ (A : Interval). A.hi) c.c.view_is in
-    let d-lo : to_z w64 (of_z w64 c.d.inside.lo) ≡ c.args.d.lo = to_z-of_z w64 c.d.inside.lo f ∙ ap (λ (A : Interval). A.lo) c.d.view_is in
-    let d-hi : to_z w64 (of_z w64 c.d.inside.hi) ≡ c.args.d.hi = to_z-of_z w64 c.d.inside.hi g ∙ ap (λ (A : Interval). A.hi) c.d.view_is in
     let l = c.opposite_ends-least in
-    let h = c.opposite_ends-greatest in
-    let least = picked-opposite _ _ c.args.c.lo c.args.d.lo c.args.m c.args.v l.result.0 l.result.1 c-lo d-lo (record { ordered = l.ensures.ordered; turned = l.ensures.turned }) in
-    let greatest = picked-opposite _ _ c.args.c.hi c.args.d.hi c.args.v c.args.m h.result.0 h.result.1 c-hi d-hi (record { ordered = h.ensures.ordered; turned = h.ensures.turned }) in
-    let low = given4 (blend Floor) _ _ _ _ _ c.args.c.lo c.args.d.lo l.result.0 l.result.1 (search rules) c.blend.ensures.value c-lo d-lo (to_z-of_z w64 l.result.0 (search rules)) (to_z-of_z w64 l.result.1 (search rules)) in
-    let high = given4 (blend Floor) _ _ _ _ _ c.args.c.hi c.args.d.hi h.result.1 h.result.0 (search rules) c.blend-2.ensures.value c-hi d-hi (to_z-of_z w64 h.result.1 (search rules)) (to_z-of_z w64 h.result.0 (search rules)) in
-    turned-corners (blend Floor) (blend-old Floor) (blend-added Floor) (blend-turned Floor) c.args.c c.args.d c.args.m c.args.v _ _ _ _ _ _ (band-c c) (band-d c)
-    least l.ensures.inside.0 l.ensures.inside.1 greatest h.ensures.inside.1 h.ensures.inside.0 low high
+    let g = c.opposite_ends-greatest in
+    turned-hull (blend Floor) (blend-old Floor) (blend-added Floor)
+    (blend-turned Floor) c.args.c c.args.d c.args.m c.args.v
+    _ _ _ _ l.result g.result c.blend.result c.blend-2.result
+    (read-band _ _ c.c.view_is c.c.invariant) (read-band _ _ c.d.view_is c.d.invariant)
+    (read-ends _ _ c.c.view_is (search rules) (search rules)) (read-ends _ _ c.d.view_is (search rules) (search rules))
+    (record { first = l.ensures.first; second = l.ensures.second; inside = l.ensures.inside })
+    (record { first = g.ensures.first; second = g.ensures.second; inside = g.ensures.inside })
+    (search rules) (search rules) (search rules) (search rules) (search rules) (search rules)
+    c.blend.ensures.value c.blend-2.ensures.value
 
 pub invariant_of-result : goal.invariant_of-result
 invariant_of-result c = hull-ordered _ _ (exact c)
 
-pub returns-clause-exact : goal.returns-clause-exact
-returns-clause-exact c = exact c
-
-pub returns-clause-between : goal.returns-clause-between
-returns-clause-between c = hull-inside_contents (blend Floor) (blend-between Floor) c.args.c c.args.d c.args.m c.args.v _ (exact c)
-
-pub returns-clause-hull : goal.returns-clause-hull
-returns-clause-hull c =
+pub returns : goal.returns
+returns c =
     let inside = c.opposite_ends-least.ensures.inside in
-    one_hull (IsValue4 (blend Floor) c.args.c c.args.d c.args.m c.args.v) _ (hull4 (blend Floor) c.args.c c.args.d c.args.m c.args.v) (exact c)
-    (hull4-exact (blend Floor) c.args.c c.args.d c.args.m c.args.v (band-c c) (band-d c) (holds-band c.args.m _ inside.0) (holds-band c.args.v _ inside.1) (blend-monotone Floor))
+    record {
+      hull = one_hull _ _ (hull4 (blend Floor) c.args.c c.args.d c.args.m c.args.v) (exact c)
+          (hull4-exact (blend Floor) c.args.c c.args.d c.args.m c.args.v (read-band _ _ c.c.view_is c.c.invariant)
+          (read-band _ _ c.d.view_is c.d.invariant) (holds-band c.args.m _ inside.0) (holds-band c.args.v _ inside.1)
+          (blend-monotone Floor));
+      exact = exact c;
+      between = hull-inside_contents (blend Floor) (blend-between Floor) c.args.c c.args.d c.args.m c.args.v _
+          (exact c);
+    }
 
 pub blend-requires-2-clause-old : goal.blend-requires-2-clause-old
-blend-requires-2-clause-old c =
-    let f : FitsSigned w64 c.c.inside.hi = search rules in
-    let h = c.requires.old in
-    let o = c.c.invariant in
-    let low = ap (λ (A : Interval). A.lo) c.c.view_is in
-    let high = ap (λ (A : Interval). A.hi) c.c.view_is in
-    record { above = omega (arith, ints); below = omega (arith, ints) }
+blend-requires-2-clause-old c = read-high _ _ contents c.c.view_is c.c.invariant (search rules) c.requires.old
 
 pub blend-requires-2-clause-added : goal.blend-requires-2-clause-added
-blend-requires-2-clause-added c =
-    let f : FitsSigned w64 c.d.inside.hi = search rules in
-    let h = c.requires.added in
-    let o = c.d.invariant in
-    let low = ap (λ (A : Interval). A.lo) c.d.view_is in
-    let high = ap (λ (A : Interval). A.hi) c.d.view_is in
-    record { above = omega (arith, ints); below = omega (arith, ints) }
+blend-requires-2-clause-added c = read-high _ _ contents c.d.view_is c.d.invariant (search rules) c.requires.added
 
 pub blend-requires-clause-old : goal.blend-requires-clause-old
 blend-requires-clause-old c = search rules

@@ -22,7 +22,8 @@ overflow_add-rate c =
     let points = c.as_slice-points.result.now in
     let w = c.loop-i.invariant in
     let u = under-way-points points c.loop-i.i (pos 0, pos 0) _ _ c.loop-i.auto.i c.loop-i-test.true w in
-    let b = passed-between Floor (get_or points (c.loop-i.i - 1) (pos 0, pos 0)) (get_or points c.loop-i.i (pos 0, pos 0)) (to_z w64 (of_z w64 c.args.t)) u.2 in
+    let b = passed-between Floor (get_or points (c.loop-i.i - 1) (pos 0, pos 0))
+    (get_or points c.loop-i.i (pos 0, pos 0)) (to_z w64 (of_z w64 c.args.t)) u.2 in
     let f = u.0 in
     let g = u.1 in
     omega (arith, ints, c.passed-rate.ensures, u.3, w.above)
@@ -32,24 +33,29 @@ loop-i-preserved c =
     let points = c.as_slice-points.result.now in
     let w = c.loop-i.invariant in
     let u = under-way-points points c.loop-i.i (pos 0, pos 0) _ _ c.loop-i.auto.i c.loop-i-test.true w in
-    let b = passed-between Floor (get_or points (c.loop-i.i - 1) (pos 0, pos 0)) (get_or points c.loop-i.i (pos 0, pos 0)) (to_z w64 (of_z w64 c.args.t)) u.2 in
+    let b = passed-between Floor (get_or points (c.loop-i.i - 1) (pos 0, pos 0))
+    (get_or points c.loop-i.i (pos 0, pos 0)) (to_z w64 (of_z w64 c.args.t)) u.2 in
     let f = u.0 in
     let g = u.1 in
     let e : to_z w64 (of_z w64 (to_z w64 c.loop-i.rate-bits +ℤ to_z w64 (of_z w64 c.passed-rate.result)))
-    ≡ to_z w64 c.loop-i.rate-bits +ℤ passed Floor (get_or points (c.loop-i.i - 1) (pos 0, pos 0)) (get_or points c.loop-i.i (pos 0, pos 0)) (to_z w64 (of_z w64 c.args.t)) =
+    ≡ to_z w64 c.loop-i.rate-bits +ℤ passed Floor (get_or points (c.loop-i.i - 1) (pos 0, pos 0))
+    (get_or points c.loop-i.i (pos 0, pos 0)) (to_z w64 (of_z w64 c.args.t)) =
     omega (arith, ints, c.passed-rate.ensures, u.3, w.above) in
     let next = under-way-more points c.loop-i.i (pos 0, pos 0) _ _ _ c.loop-i.auto.i c.loop-i-test.true w e in
     let back : c.loop-i.i ≡ c.loop-i.i + 1 - 1 = omega arith in
-    subst (λ n. IsUnderWay points (drop n points) (to_z w64 (of_z w64 c.args.t)) (to_z w64 (of_z w64 (to_z w64 c.loop-i.rate-bits +ℤ to_z w64 (of_z w64 c.passed-rate.result))))) back next
+    subst (λ n. IsUnderWay points (drop n points) (to_z w64 (of_z w64 c.args.t))
+    (to_z w64 (of_z w64 (to_z w64 c.loop-i.rate-bits +ℤ to_z w64 (of_z w64 c.passed-rate.result))))) back next
 
-ended : (c : After-loop-i) → (to_z w64 c.loop-i.rate-bits ≡ lookup Floor c.as_slice-points.result.now (to_z w64 (of_z w64 c.args.t))) × Holds rates (to_z w64 c.loop-i.rate-bits)
+ended : (c : After-loop-i) → (to_z w64 c.loop-i.rate-bits ≡ lookup Floor c.as_slice-points.result.now
+    (to_z w64 (of_z w64 c.args.t))) × Holds rates (to_z w64 c.loop-i.rate-bits)
 ended c =
     let h = c.as_slice-points.ensures.table in
     under-way-end c.as_slice-points.result.now c.loop-i.i _ _ (omega (arith, h.some)) c.loop-i.auto.i c.loop-i.invariant
 
 pub returns-clause-value : goal.returns-clause-value
 returns-clause-value c =
-    (ended c).0 ∙ ap (λ t. lookup Floor c.as_slice-points.result.now t) (to_z-of_z w64 c.args.t c.ranges.t) ∙ ap (λ points. lookup Floor points c.args.t) c.as_slice-points.ensures.points
+    (ended c).0 ∙ ap (λ t. lookup Floor c.as_slice-points.result.now t) (to_z-of_z w64 c.args.t c.ranges.t) ∙
+    ap (λ points. lookup Floor points c.args.t) c.as_slice-points.ensures.points
 
 pub returns-clause-rate : goal.returns-clause-rate
 returns-clause-rate c = (ended c).1

@@ -1,10 +1,10 @@
 use Rattle.std.proofs.Common.{rules, ◌≡◌, pos, ◌+ℤ◌, ◌*ℤ◌, ℤ, ◌≤ℤ◌, to_z, of_z, sym, ◌∙◌, ap, subst, arith}
 use Rattle.std.proofs.lemmas.Int.{ints, clamps, to_z-of_z}
 use Rattle.std.specs.Int.{w64, w128}
-use Rattle.quant.specs.Interval.{Holds, around, join, point}
+use Rattle.quant.specs.Interval.{Holds, join, point}
 use Rattle.quant.specs.Rounding.{quotient, Floor}
-use Rattle.quant.specs.Operation.{mix, flows, not_negative}
-use Rattle.quant.proofs.Casts.{product-around, same-product, sum-fits, sum-back}
+use Rattle.quant.specs.Operation.{mix, flows, not_negative, amounts, greatest_amount, greatest_content}
+use Rattle.quant.proofs.Casts.{product-around, same-product, sum-fits, sum-back, products}
 use Rattle.quant.proofs.Mixing.{both, mix-flows, mix-still, mix-between, mix-around}
 use Rattle.quant.proofs.mixes.mix.Goals as goal
 
@@ -13,40 +13,51 @@ returns-then-both-eq0-clause-value c =
     let h = c.requires.first_flow in
     let k = c.requires.second_flow in
     let e = c.if-both-eq0.true in
-    to_z-of_z w64 c.args.c c.ranges.c ∙ sym (mix-still Floor c.args.c c.args.d c.args.m c.args.n (omega (arith, ints, clamps)))
+    to_z-of_z w64 c.args.c c.ranges.c ∙ sym (mix-still Floor c.args.c c.args.d c.args.m c.args.n
+    (omega (arith, ints, clamps)))
 
 -- the two products are those of the definition
-flow-around : (m : ℤ) → Holds flows m → Holds (around 10000000000000) m
+flow-around : (m : ℤ) → Holds flows m → Holds amounts m
 flow-around m h = record { above = omega (arith, ints); below = omega (arith, ints) }
 
-first : (c : goal.After-from-4) → to_z w128 (of_z w128 c.from.result) *ℤ to_z w128 (of_z w128 c.from-2.result) ≡ c.args.c *ℤ c.args.m
-first c = same-product (to_z w128 (of_z w128 c.from.result)) (to_z w128 (of_z w128 c.from-2.result)) c.args.c c.args.m (omega (arith, ints)) (omega (arith, ints))
+first : (c : goal.After-from-4) → to_z w128 (of_z w128 c.from.result) *ℤ to_z w128 (of_z w128 c.from-2.result)
+    ≡ c.args.c *ℤ c.args.m
+first c = same-product (to_z w128 (of_z w128 c.from.result)) (to_z w128 (of_z w128 c.from-2.result)) c.args.c c.args.m
+    (omega (arith, ints)) (omega (arith, ints))
 
-first-around : (c : goal.After-from-4) → Holds (around 100000000000000000000000000000) (c.args.c *ℤ c.args.m)
-first-around c = product-around c.args.c c.args.m 10000000000000000 10000000000000 c.requires.first (flow-around c.args.m c.requires.first_flow)
+first-around : (c : goal.After-from-4) → Holds products (c.args.c *ℤ c.args.m)
+first-around c = product-around c.args.c c.args.m greatest_content greatest_amount c.requires.first
+    (flow-around c.args.m c.requires.first_flow)
 
-second : (c : goal.After-from-4) → to_z w128 (of_z w128 c.from-3.result) *ℤ to_z w128 (of_z w128 c.from-4.result) ≡ c.args.d *ℤ c.args.n
-second c = same-product (to_z w128 (of_z w128 c.from-3.result)) (to_z w128 (of_z w128 c.from-4.result)) c.args.d c.args.n (omega (arith, ints)) (omega (arith, ints))
+second : (c : goal.After-from-4) → to_z w128 (of_z w128 c.from-3.result) *ℤ to_z w128 (of_z w128 c.from-4.result)
+    ≡ c.args.d *ℤ c.args.n
+second c = same-product (to_z w128 (of_z w128 c.from-3.result))
+    (to_z w128 (of_z w128 c.from-4.result)) c.args.d c.args.n (omega (arith, ints)) (omega (arith, ints))
 
-second-around : (c : goal.After-from-4) → Holds (around 100000000000000000000000000000) (c.args.d *ℤ c.args.n)
-second-around c = product-around c.args.d c.args.n 10000000000000000 10000000000000 c.requires.second (flow-around c.args.n c.requires.second_flow)
+second-around : (c : goal.After-from-4) → Holds products (c.args.d *ℤ c.args.n)
+second-around c = product-around c.args.d c.args.n greatest_content greatest_amount c.requires.second
+    (flow-around c.args.n c.requires.second_flow)
 
 pub overflow_add-weighed : goal.overflow_add-weighed
 overflow_add-weighed c =
-    sum-fits (to_z w128 (of_z w128 c.from.result) *ℤ to_z w128 (of_z w128 c.from-2.result)) (to_z w128 (of_z w128 c.from-3.result) *ℤ to_z w128 (of_z w128 c.from-4.result))
+    sum-fits (to_z w128 (of_z w128 c.from.result) *ℤ to_z w128 (of_z w128 c.from-2.result))
+    (to_z w128 (of_z w128 c.from-3.result) *ℤ to_z w128 (of_z w128 c.from-4.result))
     (c.args.c *ℤ c.args.m) (c.args.d *ℤ c.args.n) (first c) (second c) (first-around c) (second-around c)
 
 -- flows that are not negative are themselves
 same_flow : (m : ℤ) → Holds flows m → m ≡ not_negative m
 same_flow m h = omega (arith, ints, clamps)
 
-same_mix : (c d m n k l t : ℤ) → m ≡ k → n ≡ l → t ≡ k +ℤ l → quotient Floor (c *ℤ m +ℤ d *ℤ n) t ≡ quotient Floor (c *ℤ k +ℤ d *ℤ l) (k +ℤ l)
+same_mix : (c d m n k l t : ℤ) → m ≡ k → n ≡ l → t ≡ k +ℤ l →
+    quotient Floor (c *ℤ m +ℤ d *ℤ n) t ≡ quotient Floor (c *ℤ k +ℤ d *ℤ l) (k +ℤ l)
 same_mix c d m n k l t e f g =
-    ap (λ (x : ℤ). quotient Floor (c *ℤ x +ℤ d *ℤ n) t) e ∙ ap (λ (x : ℤ). quotient Floor (c *ℤ k +ℤ d *ℤ x) t) f ∙ ap (quotient Floor (c *ℤ k +ℤ d *ℤ l)) g
+    ap (λ (x : ℤ). quotient Floor (c *ℤ x +ℤ d *ℤ n) t) e ∙ ap (λ (x : ℤ). quotient Floor (c *ℤ k +ℤ d *ℤ x) t) f ∙
+    ap (quotient Floor (c *ℤ k +ℤ d *ℤ l)) g
 
 mixed : (c : goal.After-from-4) →
     quotient Floor
-    (to_z w128 (of_z w128 (to_z w128 (of_z w128 (to_z w128 (of_z w128 c.from.result) *ℤ to_z w128 (of_z w128 c.from-2.result)))
+    (to_z w128 (of_z w128 (to_z w128 (of_z w128
+    (to_z w128 (of_z w128 c.from.result) *ℤ to_z w128 (of_z w128 c.from-2.result)))
     +ℤ to_z w128 (of_z w128 (to_z w128 (of_z w128 c.from-3.result) *ℤ to_z w128 (of_z w128 c.from-4.result))))))
     (to_z w64 (of_z w64 (to_z w64 (of_z w64 c.args.m) +ℤ to_z w64 (of_z w64 c.args.n))))
     ≡ mix Floor c.args.c c.args.d c.args.m c.args.n
@@ -56,26 +67,31 @@ mixed c =
     let m = same_flow c.args.m h in
     let n = same_flow c.args.n k in
     let some = c.if-both-eq0.false in
-    let total : to_z w64 (of_z w64 (to_z w64 (of_z w64 c.args.m) +ℤ to_z w64 (of_z w64 c.args.n))) ≡ c.args.m +ℤ c.args.n = omega (arith, ints) in
+    let total : to_z w64 (of_z w64 (to_z w64 (of_z w64 c.args.m) +ℤ to_z w64 (of_z w64 c.args.n)))
+    ≡ c.args.m +ℤ c.args.n = omega (arith, ints) in
     let flows : pos 1 ≤ℤ both c.args.m c.args.n = omega (arith, ints) in
-    let sum = sum-back (to_z w128 (of_z w128 c.from.result) *ℤ to_z w128 (of_z w128 c.from-2.result)) (to_z w128 (of_z w128 c.from-3.result) *ℤ to_z w128 (of_z w128 c.from-4.result))
+    let sum = sum-back (to_z w128 (of_z w128 c.from.result) *ℤ to_z w128 (of_z w128 c.from-2.result))
+    (to_z w128 (of_z w128 c.from-3.result) *ℤ to_z w128 (of_z w128 c.from-4.result))
     (c.args.c *ℤ c.args.m) (c.args.d *ℤ c.args.n) (first c) (second c) (first-around c) (second-around c)
     in
-    ap (λ (t : ℤ). quotient Floor t (to_z w64 (of_z w64 (to_z w64 (of_z w64 c.args.m) +ℤ to_z w64 (of_z w64 c.args.n))))) sum
-    ∙ same_mix c.args.c c.args.d c.args.m c.args.n (not_negative c.args.m) (not_negative c.args.n) (to_z w64 (of_z w64 (to_z w64 (of_z w64 c.args.m) +ℤ to_z w64 (of_z w64 c.args.n)))) m n (omega (arith, ints))
+    ap (λ (t : ℤ). quotient Floor t (to_z w64 (of_z w64
+    (to_z w64 (of_z w64 c.args.m) +ℤ to_z w64 (of_z w64 c.args.n))))) sum
+    ∙ same_mix c.args.c c.args.d c.args.m c.args.n (not_negative c.args.m) (not_negative c.args.n)
+    (to_z w64 (of_z w64 (to_z w64 (of_z w64 c.args.m) +ℤ to_z w64 (of_z w64 c.args.n)))) m n (omega (arith, ints))
     ∙ sym (mix-flows Floor c.args.c c.args.d c.args.m c.args.n flows)
 
 pub floor_quotient-requires-clause-fits : goal.floor_quotient-requires-clause-fits
 floor_quotient-requires-clause-fits c =
     let e = mixed c in
-    let h = mix-around Floor c.args.c c.args.d c.args.m c.args.n 10000000000000000 c.requires.first c.requires.second in
+    let h = mix-around Floor c.args.c c.args.d c.args.m c.args.n greatest_content c.requires.first c.requires.second in
     omega (arith, ints)
 
 pub returns-clause-value : goal.returns-clause-value
 returns-clause-value c = let e = c.floor_quotient.ensures ∙ mixed c.before in omega (arith, ints)
 
 pub returns-clause-between : goal.returns-clause-between
-returns-clause-between c = subst (λ (z : ℤ). Holds (join (point c.args.c) (point c.args.d)) z) (sym (returns-clause-value c)) (mix-between Floor c.args.c c.args.d c.args.m c.args.n)
+returns-clause-between c = subst (λ (z : ℤ). Holds (join (point c.args.c) (point c.args.d)) z)
+    (sym (returns-clause-value c)) (mix-between Floor c.args.c c.args.d c.args.m c.args.n)
 
 pub overflow_add-both : goal.overflow_add-both
 overflow_add-both c = search rules

@@ -8,7 +8,8 @@ use Rattle.quant.proofs.quotients.floor_quotient.Goals as goal
 -- both divisions give the quotient
 wide : (c : goal.After-div_euclid-in-Err) → c.div_euclid-in-Err.result ≡ quotient Floor c.args.a c.args.b
 wide c =
-    quotient-floor c.args.a c.args.b (to_z w128 (of_z w128 c.args.a)) (to_z w128 (of_z w128 c.from.result)) c.div_euclid-in-Err.result c.requires.positive
+    quotient-floor c.args.a c.args.b (to_z w128 (of_z w128 c.args.a))
+    (to_z w128 (of_z w128 c.from.result)) c.div_euclid-in-Err.result c.requires.positive
     (to_z-of_z w128 c.args.a c.ranges.a)
     (omega (arith, ints, c.from.ensures))
     c.div_euclid-in-Err.ensures
@@ -20,7 +21,8 @@ pub returns-in-Ok : goal.returns-in-Ok
 returns-in-Ok c =
     let s = c.in-Ok.ensures in
     let e : c.div_euclid.result ≡ quotient Floor c.args.a c.args.b =
-    quotient-floor c.args.a c.args.b (to_z w64 (of_z w64 c.in-Ok.small)) (to_z w64 (of_z w64 c.args.b)) c.div_euclid.result c.requires.positive
+    quotient-floor c.args.a c.args.b (to_z w64 (of_z w64 c.in-Ok.small))
+    (to_z w64 (of_z w64 c.args.b)) c.div_euclid.result c.requires.positive
     (omega (arith, ints, s.0, s.1))
     (to_z-of_z w64 c.args.b c.ranges.b)
     c.div_euclid.ensures

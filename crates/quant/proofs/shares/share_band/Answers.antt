@@ -1,62 +1,39 @@
-use Rattle.std.proofs.Common.{to_z, of_z, rules, FitsSigned, arith, ap, subst}
-use Rattle.std.proofs.lemmas.Int.{ints}
+-- A share is least at the lower end of its whole, and greatest at the upper one, each at the end of the ppm that its sign picks.
+use Rattle.std.proofs.Common.{pos, to_z, of_z, rules, refl}
 use Rattle.std.specs.Int.{w64}
-use Rattle.quant.specs.Interval.{Interval, IsBand}
 use Rattle.quant.specs.Hull.{hull2, IsHull, IsValue2}
 use Rattle.quant.specs.Rounding.{Floor}
-use Rattle.quant.specs.Operation.{share}
+use Rattle.quant.specs.Operation.{share, contents}
+use Rattle.quant.proofs.Bands.{read-band, read-ends, read-high}
 use Rattle.quant.proofs.Hulls.{one_hull, hull2-exact}
-use Rattle.quant.proofs.Operations.{share-rises, share-between, share-monotone}
-use Rattle.quant.proofs.Corners.{share-least, share-greatest, corners2, hull-ordered, hull-between, called, picked-upper, picked-lower}
+use Rattle.quant.proofs.Operations.{share-rises, share-drawn, share-between, share-monotone}
+use Rattle.quant.proofs.Corners.{takes, drawn-hull2, hull-ordered, hull-between}
 use Rattle.quant.proofs.shares.share_band.Goals as goal
 
--- the two ends are the shares at the least and the greatest corner
-exact : (c : goal.After-share-2) →
-    IsHull (IsValue2 (share Floor) (record { lo = c.a.inside.lo; hi = c.a.inside.hi }) (record { lo = c.g.inside.lo; hi = c.g.inside.hi }))
+exact : (c : goal.After-share-2) → IsHull (IsValue2 (share Floor) c.args.a c.args.g)
     (record { lo = to_z w64 (of_z w64 c.share.result); hi = to_z w64 (of_z w64 c.share-2.result) })
 exact c =
-    let a : FitsSigned w64 c.a.inside.lo = search rules in
-    let b : FitsSigned w64 c.a.inside.hi = search rules in
-    let g : FitsSigned w64 c.g.inside.lo = search rules in
-    let h : FitsSigned w64 c.g.inside.hi = search rules in
-    let x : FitsSigned w64 c.by_sign.result = search rules in
-    let y : FitsSigned w64 c.by_sign-2.result = search rules in
-    let A : Interval = record { lo = c.a.inside.lo; hi = c.a.inside.hi } in
-    let G : Interval = record { lo = c.g.inside.lo; hi = c.g.inside.hi } in
-    let band : IsBand G = record { ordered = c.g.invariant } in
-    corners2 (share Floor) (share-rises Floor) A G c.by_sign.result c.by_sign-2.result (to_z w64 (of_z w64 c.share.result)) (to_z w64 (of_z w64 c.share-2.result)) (record { ordered = c.a.invariant })
-    (share-least Floor c.a.inside.lo G c.by_sign.result band
-    (picked-upper c.a.inside.lo c.by_sign.result c.g.inside.lo a g c.by_sign.ensures.not_negative)
-    (picked-lower c.a.inside.lo c.by_sign.result c.g.inside.hi a h c.by_sign.ensures.negative))
-    (share-greatest Floor c.a.inside.hi G c.by_sign-2.result band
-    (picked-upper c.a.inside.hi c.by_sign-2.result c.g.inside.hi b h c.by_sign-2.ensures.not_negative)
-    (picked-lower c.a.inside.hi c.by_sign-2.result c.g.inside.lo b g c.by_sign-2.ensures.negative))
-    (called (share Floor) c.a.inside.lo c.by_sign.result c.share.result a x (search rules) c.share.ensures.value)
-    (called (share Floor) c.a.inside.hi c.by_sign-2.result c.share-2.result b y (search rules) c.share-2.ensures.value)
+    let a = read-ends _ c.args.a c.a.view_is (search rules) (search rules) in
+    let g = read-ends _ c.args.g c.g.view_is (search rules) (search rules) in
+    drawn-hull2 (share Floor) (share-rises Floor) (λ a. pos 0) (λ a. a) (share-drawn Floor) c.args.a c.args.g
+    _ _ _ _ c.share.result c.share-2.result (read-band _ _ c.a.view_is c.a.invariant)
+    (read-band _ _ c.g.view_is c.g.invariant) a.0 a.1
+    (takes _ _ _ _ _ _ _ _ _ refl a.0 g.0 g.1 c.by_sign.ensures)
+    (takes _ _ _ _ _ _ _ _ _ refl a.1 g.1 g.0 c.by_sign-2.ensures)
+    (search rules) (search rules) (search rules) (search rules) c.share.ensures.value c.share-2.ensures.value
 
 pub invariant_of-result : goal.invariant_of-result
 invariant_of-result c = hull-ordered _ _ (exact c)
 
-pub returns-clause-exact : goal.returns-clause-exact
-returns-clause-exact c =
-    let R : Interval = record { lo = to_z w64 (of_z w64 c.share.result); hi = to_z w64 (of_z w64 c.share-2.result) } in
-    let G : Interval = record { lo = c.g.inside.lo; hi = c.g.inside.hi } in
-    subst (λ (H : Interval). IsHull (IsValue2 (share Floor) c.args.a H) R) c.g.view_is
-    (subst (λ (A : Interval). IsHull (IsValue2 (share Floor) A G) R) c.a.view_is (exact c))
-
-pub returns-clause-hull : goal.returns-clause-hull
-returns-clause-hull c =
-    one_hull (IsValue2 (share Floor) c.args.a c.args.g) _ (hull2 (share Floor) c.args.a c.args.g) (returns-clause-exact c)
-    (hull2-exact (share Floor) c.args.a c.args.g
-    (subst IsBand c.a.view_is (record { ordered = c.a.invariant })) (subst IsBand c.g.view_is (record { ordered = c.g.invariant })) (share-monotone Floor))
-
-pub returns-clause-between : goal.returns-clause-between
-returns-clause-between c = hull-between (share Floor) (share-between Floor) c.args.a c.args.g _ (returns-clause-exact c)
+pub returns : goal.returns
+returns c = record {
+  hull = one_hull _ _ (hull2 (share Floor) c.args.a c.args.g) (exact c)
+      (hull2-exact (share Floor) c.args.a c.args.g (read-band _ _ c.a.view_is c.a.invariant)
+      (read-band _ _ c.g.view_is c.g.invariant)
+      (share-monotone Floor));
+  exact = exact c;
+  between = hull-between (share Floor) (share-between Floor) c.args.a c.args.g _ (exact c);
+}
 
 pub share-requires-2 : goal.share-requires-2
-share-requires-2 c =
-    let f : FitsSigned w64 c.a.inside.hi = search rules in
-    let o = c.a.invariant in
-    let low = ap (λ (A : Interval). A.lo) c.a.view_is in
-    let high = ap (λ (A : Interval). A.hi) c.a.view_is in
-    record { above = omega (arith, ints); below = omega (arith, ints) }
+share-requires-2 c = read-high _ _ contents c.a.view_is c.a.invariant (search rules) c.requires

@@ -9,7 +9,8 @@ use Rattle.quant.proofs.trays.kept.Goals as goal
 
 -- what leaves with the vapour
 left : (c : goal.Start) → to_z w64 (of_z w64 c.args.v) *ℤ to_z w64 (of_z w64 c.args.slope) ≡ c.args.v *ℤ c.args.slope
-left c = same-product _ _ c.args.v c.args.slope (to_z-of_z w64 c.args.v c.ranges.v) (to_z-of_z w64 c.args.slope c.ranges.slope)
+left c = same-product _ _ c.args.v c.args.slope (to_z-of_z w64 c.args.v c.ranges.v)
+    (to_z-of_z w64 c.args.slope c.ranges.slope)
 
 pub overflow_sub-result-2 : goal.overflow_sub-result-2
 overflow_sub-result-2 c =
@@ -26,7 +27,8 @@ returns-clause-value c =
 pub returns-clause-size : goal.returns-clause-size
 returns-clause-size c =
     subst (Holds weights) (sym (returns-clause-value c))
-    (kept-weighs c.args.holdup c.args.slope c.args.l c.args.v c.requires.holdup c.requires.slope c.requires.liquid c.requires.vapour c.requires.drainable)
+    (kept-weighs c.args.holdup c.args.slope c.args.l c.args.v c.requires.holdup c.requires.slope c.requires.liquid
+    c.requires.vapour c.requires.drainable)
 
 pub overflow_mul-result : goal.overflow_mul-result
 overflow_mul-result c = search rules

@@ -1,72 +1,50 @@
-use Rattle.std.proofs.Common.{ℤ, ◌≤ℤ◌, to_z, of_z, rules, FitsSigned, arith, ap, sym, ◌∙◌, subst}
-use Rattle.std.proofs.lemmas.Int.{ints, to_z-of_z}
+-- The least content is that of the lower ends, and the greatest that of the upper ones, each at the flows that it draws.
+use Rattle.std.proofs.Common.{ℤ, ◌*ℤ◌, to_z, of_z, rules, ap, refl}
+use Rattle.std.proofs.lemmas.Int.{to_z-of_z}
 use Rattle.std.specs.Int.{w64}
-use Rattle.quant.specs.Interval.{Interval, Holds, IsBand}
-use Rattle.quant.specs.Hull.{hull5, IsHull, IsValue2, IsValue5}
+use Rattle.quant.specs.Interval.{wide}
+use Rattle.quant.specs.Hull.{hull5, IsHull, IsValue5}
 use Rattle.quant.specs.Rounding.{Floor}
-use Rattle.quant.specs.Operation.{tray}
-use Rattle.quant.proofs.Hulls.{one_hull, hull5-exact}
+use Rattle.quant.specs.Operation.{tray, million, contents}
+use Rattle.quant.proofs.Bands.{read-band, read-ends, read-high}
+use Rattle.quant.proofs.Calls.{given7}
+use Rattle.quant.proofs.Casts.{same-product}
+use Rattle.quant.proofs.Hulls.{one_hull, hull5-exact, holds-band}
 use Rattle.quant.proofs.Stages.{tray-monotone}
-use Rattle.quant.proofs.Corners.{stage-corners, stage-pushes, hull-ordered, moved, holds-band}
-use Rattle.quant.proofs.trays.tray_band.Goals.{After-greatest}
+use Rattle.quant.proofs.Corners.{takes, tray-drawn, least-drawn, greatest-drawn, flow-held, drainable-held, stage-corners, stage-pushes, hull-ordered}
+use Rattle.quant.proofs.trays.tray_band.Goals.{After-tray-2}
 use Rattle.quant.proofs.trays.tray_band.Goals as goal
 
-band-x : (c : After-greatest) → IsBand c.args.x
-band-x c = subst IsBand c.x.view_is (record { ordered = c.x.invariant })
-
-band-xa : (c : After-greatest) → IsBand c.args.xa
-band-xa c = subst IsBand c.xa.view_is (record { ordered = c.xa.invariant })
-
-band-yb : (c : After-greatest) → IsBand c.args.yb
-band-yb c = subst IsBand c.yb.view_is (record { ordered = c.yb.invariant })
-
--- the lower end is the least content of the lower ends
-abbrev IsLeast : Interval → Interval → ℤ → ℤ → ℤ → ℤ → ℤ → ℤ → Type 0
-IsLeast L V h s x a b z = IsValue2 (tray Floor h s x a b) L V z × ((l v : ℤ) → Holds L l → Holds V v → z ≤ℤ tray Floor h s x a b l v)
-
-lower : (c : After-greatest) → IsLeast c.args.l c.args.v c.args.holdup c.args.slope c.args.x.lo c.args.xa.lo c.args.yb.lo (to_z w64 (of_z w64 c.least.result))
-lower c =
-    let e : FitsSigned w64 c.x.inside.lo = search rules in
-    let f : FitsSigned w64 c.xa.inside.lo = search rules in
-    let g : FitsSigned w64 c.yb.inside.lo = search rules in
-    let p : FitsSigned w64 c.least.result = search rules in
-    moved (λ (h s x : ℤ). IsLeast c.args.l c.args.v h s x c.args.xa.lo c.args.yb.lo (to_z w64 (of_z w64 c.least.result))) c.args.holdup c.args.slope c.args.x.lo _ _ _
-    (to_z-of_z w64 c.args.holdup c.ranges.holdup) (to_z-of_z w64 c.args.slope c.ranges.slope)
-    (to_z-of_z w64 c.x.inside.lo e ∙ ap (λ (A : Interval). A.lo) c.x.view_is)
-    (moved (λ (a b z : ℤ). IsLeast c.args.l c.args.v (to_z w64 (of_z w64 c.args.holdup)) (to_z w64 (of_z w64 c.args.slope)) (to_z w64 (of_z w64 c.x.inside.lo)) a b z)
-    c.args.xa.lo c.args.yb.lo (to_z w64 (of_z w64 c.least.result)) _ _ c.least.result
-    (to_z-of_z w64 c.xa.inside.lo f ∙ ap (λ (A : Interval). A.lo) c.xa.view_is) (to_z-of_z w64 c.yb.inside.lo g ∙ ap (λ (A : Interval). A.lo) c.yb.view_is)
-    (sym (to_z-of_z w64 c.least.result p))
-    (c.least.ensures.found, c.least.ensures.least))
-
--- the upper end is the greatest content of the upper ends
-abbrev IsGreatest : Interval → Interval → ℤ → ℤ → ℤ → ℤ → ℤ → ℤ → Type 0
-IsGreatest L V h s x a b z = IsValue2 (tray Floor h s x a b) L V z × ((l v : ℤ) → Holds L l → Holds V v → tray Floor h s x a b l v ≤ℤ z)
-
-upper : (c : After-greatest) → IsGreatest c.args.l c.args.v c.args.holdup c.args.slope c.args.x.hi c.args.xa.hi c.args.yb.hi (to_z w64 (of_z w64 c.greatest.result))
-upper c =
-    let e : FitsSigned w64 c.x.inside.hi = search rules in
-    let f : FitsSigned w64 c.xa.inside.hi = search rules in
-    let g : FitsSigned w64 c.yb.inside.hi = search rules in
-    let p : FitsSigned w64 c.greatest.result = search rules in
-    moved (λ (h s x : ℤ). IsGreatest c.args.l c.args.v h s x c.args.xa.hi c.args.yb.hi (to_z w64 (of_z w64 c.greatest.result))) c.args.holdup c.args.slope c.args.x.hi _ _ _
-    (to_z-of_z w64 c.args.holdup c.ranges.holdup) (to_z-of_z w64 c.args.slope c.ranges.slope)
-    (to_z-of_z w64 c.x.inside.hi e ∙ ap (λ (A : Interval). A.hi) c.x.view_is)
-    (moved (λ (a b z : ℤ). IsGreatest c.args.l c.args.v (to_z w64 (of_z w64 c.args.holdup)) (to_z w64 (of_z w64 c.args.slope)) (to_z w64 (of_z w64 c.x.inside.hi)) a b z)
-    c.args.xa.hi c.args.yb.hi (to_z w64 (of_z w64 c.greatest.result)) _ _ c.greatest.result
-    (to_z-of_z w64 c.xa.inside.hi f ∙ ap (λ (A : Interval). A.hi) c.xa.view_is) (to_z-of_z w64 c.yb.inside.hi g ∙ ap (λ (A : Interval). A.hi) c.yb.view_is)
-    (sym (to_z-of_z w64 c.greatest.result p))
-    (c.greatest.ensures.found, c.greatest.ensures.greatest))
-
-exact : (c : After-greatest) →
-    IsHull (IsValue5 (tray Floor c.args.holdup c.args.slope) c.args.x c.args.xa c.args.yb c.args.l c.args.v) (record { lo = to_z w64 (of_z w64 c.least.result); hi = to_z w64 (of_z w64 c.greatest.result) })
+exact : (c : After-tray-2) → IsHull (IsValue5 (tray Floor c.args.holdup c.args.slope) c.args.x c.args.xa c.args.yb
+    c.args.l c.args.v)
+    (record { lo = to_z w64 (of_z w64 c.tray.result); hi = to_z w64 (of_z w64 c.tray-2.result) })
 exact c =
-    let low = lower c in
-    let high = upper c in
-    stage-corners Floor c.args.holdup c.args.slope c.args.x c.args.xa c.args.yb c.args.l c.args.v (to_z w64 (of_z w64 c.least.result)) (to_z w64 (of_z w64 c.greatest.result))
-    (band-x c) (band-xa c) (band-yb c)
-    (stage-pushes c.args.holdup c.args.slope c.args.l c.args.v c.requires.slope c.requires.liquid c.requires.vapour c.requires.drainable)
-    low.0 low.1 high.0 high.1
+    let a = c.args in
+    let x = read-ends _ a.x c.x.view_is (search rules) (search rules) in
+    let xa = read-ends _ a.xa c.xa.view_is (search rules) (search rules) in
+    let yb = read-ends _ a.yb c.yb.view_is (search rules) (search rules) in
+    let h = to_z-of_z w64 a.holdup c.ranges.holdup in
+    let s = to_z-of_z w64 a.slope c.ranges.slope in
+    let f = c.drawn_flows in
+    let g = c.drawn_flows-2 in
+    let l = holds-band a.l _ f.ensures.liquid.0 in
+    let v = holds-band a.v _ f.ensures.vapour.0 in
+    stage-corners Floor a.holdup a.slope a.x a.xa a.yb a.l a.v _ _
+    (read-band _ _ c.x.view_is c.x.invariant) (read-band _ _ c.xa.view_is c.xa.invariant)
+    (read-band _ _ c.yb.view_is c.yb.invariant)
+    (stage-pushes a.holdup a.slope a.l a.v c.requires.slope c.requires.liquid c.requires.vapour c.requires.drainable)
+    (least-drawn _ _ _ _ _ a.l a.v _ _ _ (tray-drawn Floor a.holdup a.slope a.x.lo a.xa.lo a.yb.lo) l v
+    (takes _ _ _ _ _ _ _ _ _ x.0 xa.0 refl refl f.ensures.least_liquid)
+    (takes _ _ _ _ _ _ _ _ _ (same-product _ _ _ _ x.0 s)
+    (ap (λ (t : ℤ). t *ℤ million) yb.0) refl refl f.ensures.least_vapour)
+    (given7 (tray Floor) _ _ _ _ _ _ _ _ _ _ _ _ _ _ _ (search rules) c.tray.ensures.value h s x.0 xa.0 yb.0
+    (to_z-of_z w64 f.result.0.0 (search rules)) (to_z-of_z w64 f.result.0.1 (search rules))))
+    (greatest-drawn _ _ _ _ _ a.l a.v _ _ _ (tray-drawn Floor a.holdup a.slope a.x.hi a.xa.hi a.yb.hi) l v
+    (takes _ _ _ _ _ _ _ _ _ x.1 xa.1 refl refl g.ensures.most_liquid)
+    (takes _ _ _ _ _ _ _ _ _ (same-product _ _ _ _ x.1 s)
+    (ap (λ (t : ℤ). t *ℤ million) yb.1) refl refl g.ensures.most_vapour)
+    (given7 (tray Floor) _ _ _ _ _ _ _ _ _ _ _ _ _ _ _ (search rules) c.tray-2.ensures.value h s x.1 xa.1 yb.1
+    (to_z-of_z w64 g.result.1.0 (search rules)) (to_z-of_z w64 g.result.1.1 (search rules))))
 
 pub invariant_of-result : goal.invariant_of-result
 invariant_of-result c = hull-ordered _ _ (exact c)
@@ -76,74 +54,43 @@ returns-clause-exact c = exact c
 
 pub returns-clause-hull : goal.returns-clause-hull
 returns-clause-hull c =
-    let found = c.least.ensures.found in
-    one_hull (IsValue5 (tray Floor c.args.holdup c.args.slope) c.args.x c.args.xa c.args.yb c.args.l c.args.v) _
-    (hull5 (tray Floor c.args.holdup c.args.slope) c.args.x c.args.xa c.args.yb c.args.l c.args.v) (exact c)
-    (hull5-exact (tray Floor c.args.holdup c.args.slope) c.args.x c.args.xa c.args.yb c.args.l c.args.v (band-x c) (band-xa c) (band-yb c)
-    (holds-band c.args.l found.0 found.1) (holds-band c.args.v found.2.0 found.2.1) (tray-monotone Floor c.args.holdup c.args.slope))
+    let a = c.args in
+    let f = c.drawn_flows.ensures in
+    one_hull _ _ (hull5 (tray Floor a.holdup a.slope) a.x a.xa a.yb a.l a.v) (exact c)
+    (hull5-exact (tray Floor a.holdup a.slope) a.x a.xa a.yb a.l a.v
+    (read-band _ _ c.x.view_is c.x.invariant) (read-band _ _ c.xa.view_is c.xa.invariant)
+    (read-band _ _ c.yb.view_is c.yb.invariant)
+    (holds-band a.l _ f.liquid.0) (holds-band a.v _ f.vapour.0) (tray-monotone Floor a.holdup a.slope))
 
-pub greatest-requires-clause-own : goal.greatest-requires-clause-own
-greatest-requires-clause-own c =
-    let f : FitsSigned w64 c.x.inside.hi = search rules in
-    let h = c.requires.own in
-    let o = c.x.invariant in
-    let low = ap (λ (A : Interval). A.lo) c.x.view_is in
-    let high = ap (λ (A : Interval). A.hi) c.x.view_is in
-    record { above = omega (arith, ints); below = omega (arith, ints) }
+pub tray-requires-clause-liquid : goal.tray-requires-clause-liquid
+tray-requires-clause-liquid c = flow-held c.args.l _ c.requires.liquid c.drawn_flows.ensures.liquid.0 (search rules)
 
-pub greatest-requires-clause-above : goal.greatest-requires-clause-above
-greatest-requires-clause-above c =
-    let f : FitsSigned w64 c.xa.inside.hi = search rules in
-    let h = c.requires.above in
-    let o = c.xa.invariant in
-    let low = ap (λ (A : Interval). A.lo) c.xa.view_is in
-    let high = ap (λ (A : Interval). A.hi) c.xa.view_is in
-    record { above = omega (arith, ints); below = omega (arith, ints) }
+pub tray-requires-clause-vapour : goal.tray-requires-clause-vapour
+tray-requires-clause-vapour c = flow-held c.args.v _ c.requires.vapour c.drawn_flows.ensures.vapour.0 (search rules)
 
-pub greatest-requires-clause-below : goal.greatest-requires-clause-below
-greatest-requires-clause-below c =
-    let f : FitsSigned w64 c.yb.inside.hi = search rules in
-    let h = c.requires.below in
-    let o = c.yb.invariant in
-    let low = ap (λ (A : Interval). A.lo) c.yb.view_is in
-    let high = ap (λ (A : Interval). A.hi) c.yb.view_is in
-    record { above = omega (arith, ints); below = omega (arith, ints) }
+pub tray-requires-clause-drainable : goal.tray-requires-clause-drainable
+tray-requires-clause-drainable c =
+    drainable-held c.args.holdup c.args.slope c.args.l c.args.v _ _ c.requires.drainable c.requires.slope
+    c.drawn_flows.ensures.liquid.0
+    c.drawn_flows.ensures.vapour.0 c.ranges.holdup c.ranges.slope (search rules) (search rules)
 
-pub least-requires-clause-own : goal.least-requires-clause-own
-least-requires-clause-own c = search rules
+pub tray-requires-2-clause-liquid : goal.tray-requires-2-clause-liquid
+tray-requires-2-clause-liquid c = flow-held c.args.l _ c.requires.liquid c.drawn_flows-2.ensures.liquid.1 (search rules)
 
-pub least-requires-clause-above : goal.least-requires-clause-above
-least-requires-clause-above c = search rules
+pub tray-requires-2-clause-vapour : goal.tray-requires-2-clause-vapour
+tray-requires-2-clause-vapour c = flow-held c.args.v _ c.requires.vapour c.drawn_flows-2.ensures.vapour.1 (search rules)
 
-pub least-requires-clause-below : goal.least-requires-clause-below
-least-requires-clause-below c = search rules
+pub tray-requires-2-clause-drainable : goal.tray-requires-2-clause-drainable
+tray-requires-2-clause-drainable c =
+    drainable-held c.args.holdup c.args.slope c.args.l c.args.v _ _ c.requires.drainable c.requires.slope
+    c.drawn_flows-2.ensures.liquid.1
+    c.drawn_flows-2.ensures.vapour.1 c.ranges.holdup c.ranges.slope (search rules) (search rules)
 
-pub least-requires-clause-liquid : goal.least-requires-clause-liquid
-least-requires-clause-liquid c = search rules
+pub tray-requires-2-clause-own : goal.tray-requires-2-clause-own
+tray-requires-2-clause-own c = read-high _ _ wide c.x.view_is c.x.invariant (search rules) c.requires.own
 
-pub least-requires-clause-vapour : goal.least-requires-clause-vapour
-least-requires-clause-vapour c = search rules
+pub tray-requires-2-clause-above : goal.tray-requires-2-clause-above
+tray-requires-2-clause-above c = read-high _ _ wide c.xa.view_is c.xa.invariant (search rules) c.requires.above
 
-pub least-requires-clause-holdup : goal.least-requires-clause-holdup
-least-requires-clause-holdup c = search rules
-
-pub least-requires-clause-slope : goal.least-requires-clause-slope
-least-requires-clause-slope c = search rules
-
-pub least-requires-clause-drainable : goal.least-requires-clause-drainable
-least-requires-clause-drainable c = search rules
-
-pub greatest-requires-clause-liquid : goal.greatest-requires-clause-liquid
-greatest-requires-clause-liquid c = search rules
-
-pub greatest-requires-clause-vapour : goal.greatest-requires-clause-vapour
-greatest-requires-clause-vapour c = search rules
-
-pub greatest-requires-clause-holdup : goal.greatest-requires-clause-holdup
-greatest-requires-clause-holdup c = search rules
-
-pub greatest-requires-clause-slope : goal.greatest-requires-clause-slope
-greatest-requires-clause-slope c = search rules
-
-pub greatest-requires-clause-drainable : goal.greatest-requires-clause-drainable
-greatest-requires-clause-drainable c = search rules
+pub tray-requires-2-clause-below : goal.tray-requires-2-clause-below
+tray-requires-2-clause-below c = read-high _ _ contents c.yb.view_is c.yb.invariant (search rules) c.requires.below

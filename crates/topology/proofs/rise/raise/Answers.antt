@@ -12,13 +12,16 @@ returns-then-not-is_instant-clause-right c =
 pub greatest_rank-greatest-requires : goal.greatest_rank-greatest-requires
 greatest_rank-greatest-requires c =
     reads_there c.args.links.now c.args.unit
-    (length c.args.ranks.now) c.reads.result.now c.requires.links c.requires.there c.reads.ensures c.requires.rising.counted
+    (length c.args.ranks.now) c.reads.result.now c.requires.links c.requires.there c.reads.ensures
+    c.requires.rising.counted
 
 pub returns-then-greatest-units-clause-endless : goal.returns-then-greatest-units-clause-endless
 returns-then-greatest-units-clause-endless c =
-    λ _. endless c.args.links.now c.args.ranks.now c.args.unit c.greatest_rank-greatest.result c.units.result c.requires.rising
+    λ _. endless c.args.links.now c.args.ranks.now c.args.unit c.greatest_rank-greatest.result c.units.result
+    c.requires.rising
     (sym c.is_instant.ensures ∙ c.if-not-is_instant.false)
-    (c.greatest_rank-greatest.ensures ∙ ap (greatest c.args.ranks.now) c.reads.ensures) c.if-greatest-units.true c.units.ensures
+    (c.greatest_rank-greatest.ensures ∙ ap (greatest c.args.ranks.now) c.reads.ensures) c.if-greatest-units.true
+    c.units.ensures
 
 pub overflow_add-greatest : goal.overflow_add-greatest
 overflow_add-greatest c = omega
@@ -30,7 +33,8 @@ overflow_add-ranks c = omega
 
 pub returns-clause-rising : goal.returns-clause-rising
 returns-clause-rising c =
-    rw add-one (raised_rise c.args.links.now c.args.ranks.now c.args.unit c.greatest_rank-greatest.result c.requires.rising c.requires.there
+    rw add-one (raised_rise c.args.links.now c.args.ranks.now c.args.unit c.greatest_rank-greatest.result
+    c.requires.rising c.requires.there
     (sym c.is_instant.ensures ∙ c.if-not-is_instant.false)
     (c.greatest_rank-greatest.ensures ∙ ap (greatest c.args.ranks.now) c.reads.ensures)
     (λ e. c.if-greatest-units.false (e ∙ sym c.units.ensures)))

@@ -4,4 +4,8 @@ use Rattle.topology.proofs.rise.settle.Goals as goal
 
 pub loop-smaller : goal.loop-smaller
 loop-smaller c =
-    omega (arith, c.in-Raised.ensures.raised refl, sum_within c.args.links.now c.raise_all.new.ranks c.in-Raised.ensures.rising)
+    omega (
+      arith,
+      c.in-Raised.ensures.raised refl,
+      sum_within c.args.links.now c.raise_all.new.ranks c.in-Raised.ensures.rising,
+    )

@@ -10,7 +10,7 @@ use Rattle.quant.specs.Term.{interval}
 use Rattle.quant.proofs.Calls.{filled, same_cons, inside-length, read, hulled2, hulled4}
 use Rattle.basic_units.specs.Mixer.{flow_of, content_of, streams}
 use Rattle.basic_units.proofs.Reactors.{joined-wide}
-use Rattle.basic_units.proofs.Mixers.{AreMixedBands, channel-inside, streams-length, flow-more_bands, content-more_bands, sum-inside}
+use Rattle.basic_units.proofs.Mixers.{AreMixedBands, channel-room_bands, channel-inside, streams-length, flow-more_bands, content-more_bands, sum-inside}
 use Rattle.basic_units.proofs.mixer.MixerInstant.now_band.Goals as goal
 
 pub loop-i-init : goal.loop-i-init
@@ -19,63 +19,70 @@ loop-i-init c =
     let e = inside-length c.args.ins.now (streams c.args.self.now.inputs) c.requires.inputs in
     let n = streams-length c.args.self.now.inputs in
     let some = c.requires.sound.some in
-    let f = channel-inside c.args.self.now.inputs 0 0 0 c.args.ins.now c.index-ins-0.result c.requires.inputs (omega (arith, c.requires.sound.some)) (lit< tt) (omega arith) c.index-ins-0.is in
+    let f = channel-inside c.args.self.now.inputs 0 0 0 c.args.ins.now c.index-ins-0.result c.requires.inputs
+    (omega (arith, c.requires.sound.some)) (lit< tt) (omega arith) c.index-ins-0.is in
     record {
       flow_is = read ins 0 _ (omega arith) c.index-ins-0.is;
       conc_is = read ins 1 _ (omega arith) c.index-ins-1.is;
       temp_is = read ins 2 _ (omega arith) c.index-ins-2.is;
       flow_held = record { above = omega (arith, ints); below = omega (arith, ints) };
-      conc_held = channel-inside c.args.self.now.inputs 0 1 1 c.args.ins.now c.index-ins-1.result c.requires.inputs (omega (arith, c.requires.sound.some)) (lit< tt) (omega arith) c.index-ins-1.is;
-      temp_held = channel-inside c.args.self.now.inputs 0 2 2 c.args.ins.now c.index-ins-2.result c.requires.inputs (omega (arith, c.requires.sound.some)) (lit< tt) (omega arith) c.index-ins-2.is;
+      conc_held = channel-inside c.args.self.now.inputs 0 1 1 c.args.ins.now c.index-ins-1.result c.requires.inputs
+          (omega (arith, c.requires.sound.some)) (lit< tt) (omega arith) c.index-ins-1.is;
+      temp_held = channel-inside c.args.self.now.inputs 0 2 2 c.args.ins.now c.index-ins-2.result c.requires.inputs
+          (omega (arith, c.requires.sound.some)) (lit< tt) (omega arith) c.index-ins-2.is;
     }
 
 pub bounds-ins-i : goal.bounds-ins-i
 bounds-ins-i c =
-    let e = inside-length c.args.ins.now (streams c.args.self.now.inputs) c.requires.inputs in
-    let n = streams-length c.args.self.now.inputs in
-    let l = c.loop-i-test.true in
-    let h : 3 * c.loop-i.i < length c.args.ins.now = omega arith in
-    h
+    let h = channel-room_bands c.args.self.now.inputs c.loop-i.i 0 c.args.ins.now c.requires.inputs c.loop-i-test.true
+    (lit< tt) in
+    omega arith
 
 pub bounds-ins-i-in-loop-i : goal.bounds-ins-i-in-loop-i
 bounds-ins-i-in-loop-i c =
-    let e = inside-length c.args.ins.now (streams c.args.self.now.inputs) c.requires.inputs in
-    let n = streams-length c.args.self.now.inputs in
-    let l = c.loop-i-test.true in
-    let h : 3 * c.loop-i.i + 1 < length c.args.ins.now = omega arith in
-    h
+    let h = channel-room_bands c.args.self.now.inputs c.loop-i.i 1 c.args.ins.now c.requires.inputs c.loop-i-test.true
+    (lit< tt) in
+    omega arith
 
 pub bounds-ins-i-in-loop-i-2 : goal.bounds-ins-i-in-loop-i-2
 bounds-ins-i-in-loop-i-2 c =
-    let e = inside-length c.args.ins.now (streams c.args.self.now.inputs) c.requires.inputs in
-    let n = streams-length c.args.self.now.inputs in
-    let l = c.loop-i-test.true in
-    let h : 3 * c.loop-i.i + 2 < length c.args.ins.now = omega arith in
-    h
+    let h = channel-room_bands c.args.self.now.inputs c.loop-i.i 2 c.args.ins.now c.requires.inputs c.loop-i-test.true
+    (lit< tt) in
+    omega arith
 
 pub mix_band-conc-requires-clause-second : goal.mix_band-conc-requires-clause-second
 mix_band-conc-requires-clause-second c =
-    let h = channel-inside c.args.self.now.inputs c.loop-i.i 1 (3 * c.loop-i.i + 1) c.args.ins.now c.index-ins-i-in-loop-i.result c.requires.inputs c.loop-i-test.true (lit< tt) (omega arith) c.index-ins-i-in-loop-i.is in
+    let h = channel-inside c.args.self.now.inputs c.loop-i.i 1
+    (3 * c.loop-i.i + 1) c.args.ins.now c.index-ins-i-in-loop-i.result c.requires.inputs c.loop-i-test.true (lit< tt)
+    (omega arith) c.index-ins-i-in-loop-i.is in
     record { above = omega (arith, ints); below = omega (arith, ints) }
 
 pub mix_band-conc-requires-clause-second_flow : goal.mix_band-conc-requires-clause-second_flow
 mix_band-conc-requires-clause-second_flow c =
-    let h = channel-inside c.args.self.now.inputs c.loop-i.i 0 (3 * c.loop-i.i) c.args.ins.now c.index-ins-i.result c.requires.inputs c.loop-i-test.true (lit< tt) (omega arith) c.index-ins-i.is in
+    let h = channel-inside c.args.self.now.inputs c.loop-i.i 0
+    (3 * c.loop-i.i) c.args.ins.now c.index-ins-i.result c.requires.inputs c.loop-i-test.true (lit< tt)
+    (omega arith) c.index-ins-i.is in
     record { above = omega (arith, ints); below = omega (arith, ints) }
 
 pub mix_band-temp-requires-clause-second : goal.mix_band-temp-requires-clause-second
 mix_band-temp-requires-clause-second c =
-    let h = channel-inside c.args.self.now.inputs c.loop-i.i 2 (3 * c.loop-i.i + 2) c.args.ins.now c.index-ins-i-in-loop-i-2.result c.requires.inputs c.loop-i-test.true (lit< tt) (omega arith) c.index-ins-i-in-loop-i-2.is in
+    let h = channel-inside c.args.self.now.inputs c.loop-i.i 2
+    (3 * c.loop-i.i + 2) c.args.ins.now c.index-ins-i-in-loop-i-2.result c.requires.inputs c.loop-i-test.true (lit< tt)
+    (omega arith) c.index-ins-i-in-loop-i-2.is in
     record { above = omega (arith, ints); below = omega (arith, ints) }
 
 pub mix_band-temp-requires-clause-second_flow : goal.mix_band-temp-requires-clause-second_flow
 mix_band-temp-requires-clause-second_flow c =
-    let h = channel-inside c.args.self.now.inputs c.loop-i.i 0 (3 * c.loop-i.i) c.args.ins.now c.index-ins-i.result c.requires.inputs c.loop-i-test.true (lit< tt) (omega arith) c.index-ins-i.is in
+    let h = channel-inside c.args.self.now.inputs c.loop-i.i 0
+    (3 * c.loop-i.i) c.args.ins.now c.index-ins-i.result c.requires.inputs c.loop-i-test.true (lit< tt)
+    (omega arith) c.index-ins-i.is in
     record { above = omega (arith, ints); below = omega (arith, ints) }
 
 pub add_band-flow-requires-clause-right : goal.add_band-flow-requires-clause-right
 add_band-flow-requires-clause-right c =
-    let h = channel-inside c.args.self.now.inputs c.loop-i.i 0 (3 * c.loop-i.i) c.args.ins.now c.index-ins-i.result c.requires.inputs c.loop-i-test.true (lit< tt) (omega arith) c.index-ins-i.is in
+    let h = channel-inside c.args.self.now.inputs c.loop-i.i 0
+    (3 * c.loop-i.i) c.args.ins.now c.index-ins-i.result c.requires.inputs c.loop-i-test.true (lit< tt)
+    (omega arith) c.index-ins-i.is in
     record { above = omega (arith, ints); below = omega (arith, ints) }
 
 pub loop-i-preserved : goal.loop-i-preserved
@@ -89,28 +96,45 @@ loop-i-preserved c =
     let conc : Interval = slice_index_or ins (3 * c.loop-i.i + 1) (point (pos 0)) in
     let temp : Interval = slice_index_or ins (3 * c.loop-i.i + 2) (point (pos 0)) in
     let m : c.index-ins-i.result ≡ more = read ins (3 * c.loop-i.i) _ (omega arith) c.index-ins-i.is in
-    let d : c.index-ins-i-in-loop-i.result ≡ conc = read ins (3 * c.loop-i.i + 1) _ (omega arith) c.index-ins-i-in-loop-i.is in
-    let t : c.index-ins-i-in-loop-i-2.result ≡ temp = read ins (3 * c.loop-i.i + 2) _ (omega arith) c.index-ins-i-in-loop-i-2.is in
-    let f = channel-inside c.args.self.now.inputs c.loop-i.i 0 (3 * c.loop-i.i) c.args.ins.now c.index-ins-i.result c.requires.inputs c.loop-i-test.true (lit< tt) (omega arith) c.index-ins-i.is in
-    let g = channel-inside c.args.self.now.inputs c.loop-i.i 1 (3 * c.loop-i.i + 1) c.args.ins.now c.index-ins-i-in-loop-i.result c.requires.inputs c.loop-i-test.true (lit< tt) (omega arith) c.index-ins-i-in-loop-i.is in
-    let h = channel-inside c.args.self.now.inputs c.loop-i.i 2 (3 * c.loop-i.i + 2) c.args.ins.now c.index-ins-i-in-loop-i-2.result c.requires.inputs c.loop-i-test.true (lit< tt) (omega arith) c.index-ins-i-in-loop-i-2.is in
+    let d : c.index-ins-i-in-loop-i.result ≡ conc =
+    read ins (3 * c.loop-i.i + 1) _ (omega arith) c.index-ins-i-in-loop-i.is in
+    let t : c.index-ins-i-in-loop-i-2.result ≡ temp =
+    read ins (3 * c.loop-i.i + 2) _ (omega arith) c.index-ins-i-in-loop-i-2.is in
+    let f = channel-inside c.args.self.now.inputs c.loop-i.i 0
+    (3 * c.loop-i.i) c.args.ins.now c.index-ins-i.result c.requires.inputs c.loop-i-test.true (lit< tt)
+    (omega arith) c.index-ins-i.is in
+    let g = channel-inside c.args.self.now.inputs c.loop-i.i 1
+    (3 * c.loop-i.i + 1) c.args.ins.now c.index-ins-i-in-loop-i.result c.requires.inputs c.loop-i-test.true (lit< tt)
+    (omega arith) c.index-ins-i-in-loop-i.is in
+    let h = channel-inside c.args.self.now.inputs c.loop-i.i 2
+    (3 * c.loop-i.i + 2) c.args.ins.now c.index-ins-i-in-loop-i-2.result c.requires.inputs c.loop-i-test.true (lit< tt)
+    (omega arith) c.index-ins-i-in-loop-i-2.is in
     let flow : Interval = interval Floor [] ins (flow_of (c.loop-i.i - 1)) in
     record {
-      flow_is = hulled2 (hull2 ◌+ℤ◌) c.loop-i.flow c.index-ins-i.result c.add_band-flow.result flow more c.add_band-flow.ensures.hull w.flow_is m ∙ flow-more_bands ins c.loop-i.i c.loop-i.auto.i;
-      conc_is = hulled4 (hull4 (mix Floor)) c.loop-i.conc c.index-ins-i-in-loop-i.result c.loop-i.flow c.index-ins-i.result c.mix_band-conc.result (interval Floor [] ins (content_of 1 (c.loop-i.i - 1))) conc flow more
+      flow_is = hulled2 (hull2 ◌+ℤ◌) c.loop-i.flow c.index-ins-i.result c.add_band-flow.result flow more
+          c.add_band-flow.ensures.hull w.flow_is m ∙ flow-more_bands ins c.loop-i.i c.loop-i.auto.i;
+      conc_is = hulled4 (hull4 (mix Floor)) c.loop-i.conc c.index-ins-i-in-loop-i.result c.loop-i.flow
+          c.index-ins-i.result c.mix_band-conc.result
+          (interval Floor [] ins (content_of 1 (c.loop-i.i - 1))) conc flow more
           c.mix_band-conc.ensures.hull w.conc_is d w.flow_is m ∙ content-more_bands ins 1 c.loop-i.i c.loop-i.auto.i;
-      temp_is = hulled4 (hull4 (mix Floor)) c.loop-i.temp c.index-ins-i-in-loop-i-2.result c.loop-i.flow c.index-ins-i.result c.mix_band-temp.result (interval Floor [] ins (content_of 2 (c.loop-i.i - 1))) temp flow more
+      temp_is = hulled4 (hull4 (mix Floor)) c.loop-i.temp c.index-ins-i-in-loop-i-2.result c.loop-i.flow
+          c.index-ins-i.result c.mix_band-temp.result
+          (interval Floor [] ins (content_of 2 (c.loop-i.i - 1))) temp flow more
           c.mix_band-temp.ensures.hull w.temp_is t w.flow_is m ∙ content-more_bands ins 2 c.loop-i.i c.loop-i.auto.i;
-      flow_held = sum-inside c.loop-i.i c.loop-i.flow c.index-ins-i.result c.add_band-flow.result w.flow_held f c.add_band-flow.ensures.exact;
-      conc_held = joined-wide c.loop-i.conc c.index-ins-i-in-loop-i.result c.mix_band-conc.result w.conc_held g c.mix_band-conc.ensures.between;
-      temp_held = joined-wide c.loop-i.temp c.index-ins-i-in-loop-i-2.result c.mix_band-temp.result w.temp_held h c.mix_band-temp.ensures.between;
+      flow_held = sum-inside c.loop-i.i c.loop-i.flow c.index-ins-i.result c.add_band-flow.result w.flow_held f
+          c.add_band-flow.ensures.exact;
+      conc_held = joined-wide c.loop-i.conc c.index-ins-i-in-loop-i.result c.mix_band-conc.result w.conc_held g
+          c.mix_band-conc.ensures.between;
+      temp_held = joined-wide c.loop-i.temp c.index-ins-i-in-loop-i-2.result c.mix_band-temp.result w.temp_held h
+          c.mix_band-temp.ensures.between;
     }
 
 pub returns : goal.returns
 returns c =
     let mixer = c.args.self.now in
     let all : c.loop-i.i ≡ c.args.self.now.inputs = omega (arith, c.requires.sound.some) in
-    let w = subst (λ n. AreMixedBands c.args.ins.now n c.loop-i.flow c.loop-i.conc c.loop-i.temp) all c.loop-i.invariant in
+    let w = subst (λ n. AreMixedBands c.args.ins.now n c.loop-i.flow c.loop-i.conc c.loop-i.temp) all
+    c.loop-i.invariant in
     filled c.args.outs.now (_ ∷ _ ∷ _ ∷ []) c.requires.room
     ∙ same_cons _ _ _ _ (c.clamp_band.ensures.hull ∙ ap (hull1 (clamp mixer.limits.flow)) w.flow_is)
     (same_cons _ _ _ _ (c.clamp_band-2.ensures.hull ∙ ap (hull1 (clamp mixer.limits.conc)) w.conc_is)

@@ -8,15 +8,18 @@ use Rattle.quant.specs.Operation.{mix, clamp}
 use Rattle.quant.specs.Term.{value}
 use Rattle.quant.proofs.Calls.{filled, same_cons, held-length, given1, given2, given4}
 use Rattle.basic_units.specs.Mixer.{flow_of, content_of, streams}
-use Rattle.basic_units.proofs.Mixers.{AreMixed, channel-held, streams-length, flow-more, content-more}
+use Rattle.basic_units.proofs.Mixers.{AreMixed, channel-room, channel-held, streams-length, flow-more, content-more}
 use Rattle.basic_units.proofs.mixer.MixerInstant.now_point.Goals as goal
 
 pub loop-i-init : goal.loop-i-init
 loop-i-init c =
     let ins = c.args.ins.now in
-    let f = channel-held c.args.self.now.inputs 0 0 0 c.args.ins.now c.requires.inputs (omega (arith, c.requires.sound.some)) (lit< tt) (omega arith) in
-    let g = channel-held c.args.self.now.inputs 0 1 1 c.args.ins.now c.requires.inputs (omega (arith, c.requires.sound.some)) (lit< tt) (omega arith) in
-    let h = channel-held c.args.self.now.inputs 0 2 2 c.args.ins.now c.requires.inputs (omega (arith, c.requires.sound.some)) (lit< tt) (omega arith) in
+    let f = channel-held c.args.self.now.inputs 0 0 0 c.args.ins.now c.requires.inputs
+    (omega (arith, c.requires.sound.some)) (lit< tt) (omega arith) in
+    let g = channel-held c.args.self.now.inputs 0 1 1 c.args.ins.now c.requires.inputs
+    (omega (arith, c.requires.sound.some)) (lit< tt) (omega arith) in
+    let h = channel-held c.args.self.now.inputs 0 2 2 c.args.ins.now c.requires.inputs
+    (omega (arith, c.requires.sound.some)) (lit< tt) (omega arith) in
     record {
       flow_is = to_z-of_z w64 (slice_index_or ins 0 (pos 0)) (search rules);
       conc_is = to_z-of_z w64 (slice_index_or ins 1 (pos 0)) (search rules);
@@ -28,51 +31,50 @@ loop-i-init c =
 
 pub bounds-ins-i : goal.bounds-ins-i
 bounds-ins-i c =
-    let e = held-length (streams c.args.self.now.inputs) c.args.ins.now c.requires.inputs in
-    let n = streams-length c.args.self.now.inputs in
-    let l = c.loop-i-test.true in
-    let h : 3 * c.loop-i.i < length c.args.ins.now = omega arith in
-    h
+    let h = channel-room c.args.self.now.inputs c.loop-i.i 0 c.args.ins.now c.requires.inputs c.loop-i-test.true
+    (lit< tt) in
+    omega arith
 
 pub bounds-ins-i-in-loop-i : goal.bounds-ins-i-in-loop-i
 bounds-ins-i-in-loop-i c =
-    let e = held-length (streams c.args.self.now.inputs) c.args.ins.now c.requires.inputs in
-    let n = streams-length c.args.self.now.inputs in
-    let l = c.loop-i-test.true in
-    let h : 3 * c.loop-i.i + 1 < length c.args.ins.now = omega arith in
-    h
+    let h = channel-room c.args.self.now.inputs c.loop-i.i 1 c.args.ins.now c.requires.inputs c.loop-i-test.true
+    (lit< tt) in
+    omega arith
 
 pub bounds-ins-i-in-loop-i-2 : goal.bounds-ins-i-in-loop-i-2
 bounds-ins-i-in-loop-i-2 c =
-    let e = held-length (streams c.args.self.now.inputs) c.args.ins.now c.requires.inputs in
-    let n = streams-length c.args.self.now.inputs in
-    let l = c.loop-i-test.true in
-    let h : 3 * c.loop-i.i + 2 < length c.args.ins.now = omega arith in
-    h
+    let h = channel-room c.args.self.now.inputs c.loop-i.i 2 c.args.ins.now c.requires.inputs c.loop-i-test.true
+    (lit< tt) in
+    omega arith
 
 pub mix-conc-requires-clause-second : goal.mix-conc-requires-clause-second
 mix-conc-requires-clause-second c =
-    let h = channel-held c.args.self.now.inputs c.loop-i.i 1 (3 * c.loop-i.i + 1) c.args.ins.now c.requires.inputs c.loop-i-test.true (lit< tt) (omega arith) in
+    let h = channel-held c.args.self.now.inputs c.loop-i.i 1
+    (3 * c.loop-i.i + 1) c.args.ins.now c.requires.inputs c.loop-i-test.true (lit< tt) (omega arith) in
     record { above = omega (arith, ints); below = omega (arith, ints) }
 
 pub mix-conc-requires-clause-second_flow : goal.mix-conc-requires-clause-second_flow
 mix-conc-requires-clause-second_flow c =
-    let h = channel-held c.args.self.now.inputs c.loop-i.i 0 (3 * c.loop-i.i) c.args.ins.now c.requires.inputs c.loop-i-test.true (lit< tt) (omega arith) in
+    let h = channel-held c.args.self.now.inputs c.loop-i.i 0
+    (3 * c.loop-i.i) c.args.ins.now c.requires.inputs c.loop-i-test.true (lit< tt) (omega arith) in
     record { above = omega (arith, ints); below = omega (arith, ints) }
 
 pub mix-temp-requires-clause-second : goal.mix-temp-requires-clause-second
 mix-temp-requires-clause-second c =
-    let h = channel-held c.args.self.now.inputs c.loop-i.i 2 (3 * c.loop-i.i + 2) c.args.ins.now c.requires.inputs c.loop-i-test.true (lit< tt) (omega arith) in
+    let h = channel-held c.args.self.now.inputs c.loop-i.i 2
+    (3 * c.loop-i.i + 2) c.args.ins.now c.requires.inputs c.loop-i-test.true (lit< tt) (omega arith) in
     record { above = omega (arith, ints); below = omega (arith, ints) }
 
 pub mix-temp-requires-clause-second_flow : goal.mix-temp-requires-clause-second_flow
 mix-temp-requires-clause-second_flow c =
-    let h = channel-held c.args.self.now.inputs c.loop-i.i 0 (3 * c.loop-i.i) c.args.ins.now c.requires.inputs c.loop-i-test.true (lit< tt) (omega arith) in
+    let h = channel-held c.args.self.now.inputs c.loop-i.i 0
+    (3 * c.loop-i.i) c.args.ins.now c.requires.inputs c.loop-i-test.true (lit< tt) (omega arith) in
     record { above = omega (arith, ints); below = omega (arith, ints) }
 
 pub add-flow-requires-clause-right : goal.add-flow-requires-clause-right
 add-flow-requires-clause-right c =
-    let h = channel-held c.args.self.now.inputs c.loop-i.i 0 (3 * c.loop-i.i) c.args.ins.now c.requires.inputs c.loop-i-test.true (lit< tt) (omega arith) in
+    let h = channel-held c.args.self.now.inputs c.loop-i.i 0
+    (3 * c.loop-i.i) c.args.ins.now c.requires.inputs c.loop-i-test.true (lit< tt) (omega arith) in
     record { above = omega (arith, ints); below = omega (arith, ints) }
 
 pub loop-i-preserved : goal.loop-i-preserved
@@ -86,27 +88,47 @@ loop-i-preserved c =
     let m : to_z w64 (of_z w64 more) ≡ more = to_z-of_z w64 more (search rules) in
     let d : to_z w64 (of_z w64 conc) ≡ conc = to_z-of_z w64 conc (search rules) in
     let t : to_z w64 (of_z w64 temp) ≡ temp = to_z-of_z w64 temp (search rules) in
-    let f = channel-held c.args.self.now.inputs c.loop-i.i 0 (3 * c.loop-i.i) c.args.ins.now c.requires.inputs c.loop-i-test.true (lit< tt) (omega arith) in
-    let g = channel-held c.args.self.now.inputs c.loop-i.i 1 (3 * c.loop-i.i + 1) c.args.ins.now c.requires.inputs c.loop-i-test.true (lit< tt) (omega arith) in
-    let h = channel-held c.args.self.now.inputs c.loop-i.i 2 (3 * c.loop-i.i + 2) c.args.ins.now c.requires.inputs c.loop-i-test.true (lit< tt) (omega arith) in
+    let f = channel-held c.args.self.now.inputs c.loop-i.i 0
+    (3 * c.loop-i.i) c.args.ins.now c.requires.inputs c.loop-i-test.true (lit< tt) (omega arith) in
+    let g = channel-held c.args.self.now.inputs c.loop-i.i 1
+    (3 * c.loop-i.i + 1) c.args.ins.now c.requires.inputs c.loop-i-test.true (lit< tt) (omega arith) in
+    let h = channel-held c.args.self.now.inputs c.loop-i.i 2
+    (3 * c.loop-i.i + 2) c.args.ins.now c.requires.inputs c.loop-i-test.true (lit< tt) (omega arith) in
     let flow : ℤ = value Floor [] ins (flow_of (c.loop-i.i - 1)) in
     let a = c.add-flow.ensures in
     let b = c.mix-conc.ensures.between in
     let e = c.mix-temp.ensures.between in
     record {
-      flow_is = given2 ◌+ℤ◌ (to_z w64 c.loop-i.flow-bits) (to_z w64 (of_z w64 more)) c.add-flow.result flow more (search rules) c.add-flow.ensures w.flow_is m ∙ flow-more ins c.loop-i.i c.loop-i.auto.i;
-      conc_is = given4 (mix Floor) _ _ _ _ c.mix-conc.result (value Floor [] ins (content_of 1 (c.loop-i.i - 1))) conc flow more (search rules) c.mix-conc.ensures.value w.conc_is d w.flow_is m ∙ content-more ins 1 c.loop-i.i c.loop-i.auto.i;
-      temp_is = given4 (mix Floor) _ _ _ _ c.mix-temp.result (value Floor [] ins (content_of 2 (c.loop-i.i - 1))) temp flow more (search rules) c.mix-temp.ensures.value w.temp_is t w.flow_is m ∙ content-more ins 2 c.loop-i.i c.loop-i.auto.i;
-      flow_held = record { above = omega (arith, ints, w.flow_held.above, f.above); below = omega (arith, ints, w.flow_held.below, f.below) };
-      conc_held = record { above = omega (arith, ints, clamps, w.conc_held.above); below = omega (arith, ints, clamps, w.conc_held.below) };
-      temp_held = record { above = omega (arith, ints, clamps, w.temp_held.above); below = omega (arith, ints, clamps, w.temp_held.below) };
+      flow_is = given2 ◌+ℤ◌ (to_z w64 c.loop-i.flow-bits) (to_z w64 (of_z w64 more)) c.add-flow.result flow more
+          (search rules) c.add-flow.ensures w.flow_is m ∙ flow-more ins c.loop-i.i c.loop-i.auto.i;
+      conc_is = given4 (mix Floor) _ _ _ _ c.mix-conc.result
+          (value Floor [] ins (content_of 1 (c.loop-i.i - 1))) conc flow more
+          (search rules) c.mix-conc.ensures.value w.conc_is d w.flow_is m ∙
+          content-more ins 1 c.loop-i.i c.loop-i.auto.i;
+      temp_is = given4 (mix Floor) _ _ _ _ c.mix-temp.result
+          (value Floor [] ins (content_of 2 (c.loop-i.i - 1))) temp flow more
+          (search rules) c.mix-temp.ensures.value w.temp_is t w.flow_is m ∙
+          content-more ins 2 c.loop-i.i c.loop-i.auto.i;
+      flow_held = record {
+        above = omega (arith, ints, w.flow_held.above, f.above);
+        below = omega (arith, ints, w.flow_held.below, f.below);
+      };
+      conc_held = record {
+        above = omega (arith, ints, clamps, w.conc_held.above);
+        below = omega (arith, ints, clamps, w.conc_held.below);
+      };
+      temp_held = record {
+        above = omega (arith, ints, clamps, w.temp_held.above);
+        below = omega (arith, ints, clamps, w.temp_held.below);
+      };
     }
 
 pub returns : goal.returns
 returns c =
     let mixer = c.args.self.now in
     let all : c.loop-i.i ≡ c.args.self.now.inputs = omega (arith, c.requires.sound.some) in
-    let w = subst (λ n. AreMixed c.args.ins.now n (to_z w64 c.loop-i.flow-bits) (to_z w64 c.loop-i.conc-bits) (to_z w64 c.loop-i.temp-bits)) all c.loop-i.invariant in
+    let w = subst (λ n. AreMixed c.args.ins.now n (to_z w64 c.loop-i.flow-bits) (to_z w64 c.loop-i.conc-bits)
+    (to_z w64 c.loop-i.temp-bits)) all c.loop-i.invariant in
     filled c.args.outs.now (_ ∷ _ ∷ _ ∷ []) c.requires.room
     ∙ same_cons _ _ _ _ (given1 (clamp mixer.limits.flow) _ _ _ (search rules) c.clamp.ensures.value w.flow_is)
     (same_cons _ _ _ _ (given1 (clamp mixer.limits.conc) _ _ _ (search rules) c.clamp-2.ensures.value w.conc_is)

@@ -27,13 +27,15 @@ bounds-ins-2 c =
 pub share_band-requires : goal.share_band-requires
 share_band-requires c =
     let e = inside-length c.args.ins.now input_limits c.requires.inputs in
-    let h = read-inside c.args.ins.now 0 c.index-ins-0.result _ (omega arith) c.index-ins-0.is (place-inside c.args.ins.now input_limits 0 c.requires.inputs) in
+    let h = read-inside c.args.ins.now 0 c.index-ins-0.result _ (omega arith) c.index-ins-0.is
+    (place-inside c.args.ins.now input_limits 0 c.requires.inputs) in
     record { above = omega (arith, ints); below = omega (arith, ints) }
 
 pub keep_band-requires : goal.keep_band-requires
 keep_band-requires c =
     let e = inside-length c.args.ins.now input_limits c.requires.inputs in
-    let h = read-inside c.args.ins.now 0 c.index-ins-0-2.result _ (omega arith) c.index-ins-0-2.is (place-inside c.args.ins.now input_limits 0 c.requires.inputs) in
+    let h = read-inside c.args.ins.now 0 c.index-ins-0-2.result _ (omega arith) c.index-ins-0-2.is
+    (place-inside c.args.ins.now input_limits 0 c.requires.inputs) in
     record { above = omega (arith, ints); below = omega (arith, ints) }
 
 pub returns : goal.returns
@@ -44,15 +46,20 @@ returns c =
     let in_flow : Interval = slice_index_or ins 0 (point (pos 0)) in
     let in_conc : Interval = slice_index_or ins 1 (point (pos 0)) in
     let in_temp : Interval = slice_index_or ins 2 (point (pos 0)) in
-    let g : c.point-share.result ≡ point splitter.share = c.point-share.ensures ∙ ap point (to_z-of_z w64 splitter.share (search rules)) in
+    let g : c.point-share.result ≡ point splitter.share = c.point-share.ensures ∙
+    ap point (to_z-of_z w64 splitter.share (search rules)) in
     let first : c.share_band.result ≡ hull2 (share Floor) in_flow (point splitter.share) =
-    hulled2 (hull2 (share Floor)) c.index-ins-0.result c.point-share.result _ in_flow (point splitter.share) c.share_band.ensures.hull (read ins 0 _ (omega arith) c.index-ins-0.is) g in
+    hulled2 (hull2 (share Floor)) c.index-ins-0.result c.point-share.result _ in_flow
+    (point splitter.share) c.share_band.ensures.hull (read ins 0 _ (omega arith) c.index-ins-0.is) g in
     let second : c.keep_band.result ≡ hull2 (keep Floor) in_flow (point splitter.share) =
-    hulled2 (hull2 (keep Floor)) c.index-ins-0-2.result c.point-share.result _ in_flow (point splitter.share) c.keep_band.ensures.hull (read ins 0 _ (omega arith) c.index-ins-0-2.is) g in
+    hulled2 (hull2 (keep Floor)) c.index-ins-0-2.result c.point-share.result _ in_flow
+    (point splitter.share) c.keep_band.ensures.hull (read ins 0 _ (omega arith) c.index-ins-0-2.is) g in
     let conc : c.clamp_band-conc.result ≡ hull1 (clamp splitter.limits.conc) in_conc =
-    c.clamp_band-conc.ensures.hull ∙ ap (hull1 (clamp splitter.limits.conc)) (read ins 1 _ (omega arith) c.index-ins-1.is) in
+    c.clamp_band-conc.ensures.hull ∙ ap (hull1 (clamp splitter.limits.conc))
+    (read ins 1 _ (omega arith) c.index-ins-1.is) in
     let temp : c.clamp_band-temp.result ≡ hull1 (clamp splitter.limits.temp) in_temp =
-    c.clamp_band-temp.ensures.hull ∙ ap (hull1 (clamp splitter.limits.temp)) (read ins 2 _ (omega arith) c.index-ins-2.is) in
+    c.clamp_band-temp.ensures.hull ∙ ap (hull1 (clamp splitter.limits.temp))
+    (read ins 2 _ (omega arith) c.index-ins-2.is) in
     filled c.args.outs.now (_ ∷ _ ∷ _ ∷ _ ∷ _ ∷ _ ∷ []) c.requires.room
     ∙ same_cons _ _ _ _ (c.clamp_band.ensures.hull ∙ ap (hull1 (clamp splitter.limits.flow)) first)
     (same_cons _ _ _ _ conc (same_cons _ _ _ _ temp

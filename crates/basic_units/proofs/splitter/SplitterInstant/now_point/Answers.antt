@@ -19,10 +19,14 @@ returns c =
     let f : to_z w64 (of_z w64 in_flow) ≡ in_flow = to_z-of_z w64 in_flow (search rules) in
     let d : to_z w64 (of_z w64 in_conc) ≡ in_conc = to_z-of_z w64 in_conc (search rules) in
     let t : to_z w64 (of_z w64 in_temp) ≡ in_temp = to_z-of_z w64 in_temp (search rules) in
-    let first : to_z w64 (of_z w64 c.share.result) ≡ share Floor in_flow splitter.share = given2 (share Floor) _ _ _ in_flow splitter.share (search rules) c.share.ensures.value f g in
-    let second : to_z w64 (of_z w64 c.keep.result) ≡ keep Floor in_flow splitter.share = given2 (keep Floor) _ _ _ in_flow splitter.share (search rules) c.keep.ensures.value f g in
-    let conc : to_z w64 (of_z w64 c.clamp-conc.result) ≡ clamp splitter.limits.conc in_conc = given1 (clamp splitter.limits.conc) _ _ _ (search rules) c.clamp-conc.ensures.value d in
-    let temp : to_z w64 (of_z w64 c.clamp-temp.result) ≡ clamp splitter.limits.temp in_temp = given1 (clamp splitter.limits.temp) _ _ _ (search rules) c.clamp-temp.ensures.value t in
+    let first : to_z w64 (of_z w64 c.share.result) ≡ share Floor in_flow splitter.share =
+    given2 (share Floor) _ _ _ in_flow splitter.share (search rules) c.share.ensures.value f g in
+    let second : to_z w64 (of_z w64 c.keep.result) ≡ keep Floor in_flow splitter.share =
+    given2 (keep Floor) _ _ _ in_flow splitter.share (search rules) c.keep.ensures.value f g in
+    let conc : to_z w64 (of_z w64 c.clamp-conc.result) ≡ clamp splitter.limits.conc in_conc =
+    given1 (clamp splitter.limits.conc) _ _ _ (search rules) c.clamp-conc.ensures.value d in
+    let temp : to_z w64 (of_z w64 c.clamp-temp.result) ≡ clamp splitter.limits.temp in_temp =
+    given1 (clamp splitter.limits.temp) _ _ _ (search rules) c.clamp-temp.ensures.value t in
     filled c.args.outs.now (_ ∷ _ ∷ _ ∷ _ ∷ _ ∷ _ ∷ []) c.requires.room
     ∙ same_cons _ _ _ _ (given1 (clamp splitter.limits.flow) _ _ _ (search rules) c.clamp.ensures.value first)
     (same_cons _ _ _ _ conc (same_cons _ _ _ _ temp

@@ -1,32 +1,7 @@
--- The outputs are written one after another.
-use Rattle.std.proofs.Common.{[], ◌∷◌, refl, ap, ◌∙◌, ◌<◌, length, arith}
-use Rattle.quant.specs.Hull.{hull1}
-use Rattle.quant.specs.Operation.{clamp}
-use Rattle.quant.proofs.Calls.{filled, same_cons, read, inside-length}
-use Rattle.basic_units.specs.Tank.{state_limits}
+-- The row of states holds what is shown.
+use Rattle.basic_units.proofs.Vessels.{are_state_bands}
 use Rattle.basic_units.proofs.tank.TankKind.view_band.Goals as goal
 
-pub bounds-state-1 : goal.bounds-state-1
-bounds-state-1 c = let e = inside-length c.args.state.now (state_limits c.args.self.now) c.requires.states in omega arith
-
-pub bounds-state-2 : goal.bounds-state-2
-bounds-state-2 c =
-    let e = inside-length c.args.state.now (state_limits c.args.self.now) c.requires.states in
-    let h : 2 < length c.args.state.now = omega arith in
-    h
-
-pub bounds-state-3 : goal.bounds-state-3
-bounds-state-3 c =
-    let e = inside-length c.args.state.now (state_limits c.args.self.now) c.requires.states in
-    let h : 3 < length c.args.state.now = omega arith in
-    h
-
-pub returns : goal.returns
-returns c =
-    let states = c.args.state.now in
-    let e = inside-length states (state_limits c.args.self.now) c.requires.states in
-    filled c.args.outs.now (_ ∷ _ ∷ _ ∷ _ ∷ []) c.requires.room
-    ∙ same_cons _ _ _ _ (read states 1 _ (omega arith) c.index-state-1.is)
-    (same_cons _ _ _ _ (read states 2 _ (omega arith) c.index-state-2.is)
-    (same_cons _ _ _ _ (read states 3 _ (omega arith) c.index-state-3.is)
-    (same_cons _ _ _ _ (c.clamp_band.ensures.hull ∙ ap (hull1 (clamp c.args.self.now.limits.signal)) (read states 0 _ (omega arith) c.index-state-0.is)) refl)))
+pub show_band-requires-clause-states : goal.show_band-requires-clause-states
+show_band-requires-clause-states c = are_state_bands c.args.self.now.limits c.args.state.now c.requires.sound.limits
+    c.requires.states

@@ -30,7 +30,11 @@ returns c =
     let ins = c.args.ins.now in
     let e = inside-length ins input_limits c.requires.inputs.held in
     filled c.args.new.now (_ ∷ _ ∷ _ ∷ _ ∷ []) c.requires.room
-    ∙ same_cons _ _ _ _ (c.clamp_band.ensures.hull ∙ ap (hull1 (clamp limits.flow)) (read ins 0 _ (omega arith) c.index-ins-0.is))
-    (same_cons _ _ _ _ (c.clamp_band-2.ensures.hull ∙ ap (hull1 (clamp limits.temp)) (read ins 2 _ (omega arith) c.index-ins-2.is))
-    (same_cons _ _ _ _ (c.clamp_band-3.ensures.hull ∙ ap (hull1 (clamp limits.flow)) (read ins 3 _ (omega arith) c.index-ins-3.is))
-    (same_cons _ _ _ _ (c.clamp_band-4.ensures.hull ∙ ap (hull1 (clamp limits.temp)) (read ins 5 _ (omega arith) c.index-ins-5.is)) refl)))
+    ∙ same_cons _ _ _ _ (c.clamp_band.ensures.hull ∙
+    ap (hull1 (clamp limits.flow)) (read ins 0 _ (omega arith) c.index-ins-0.is))
+    (same_cons _ _ _ _ (c.clamp_band-2.ensures.hull ∙
+    ap (hull1 (clamp limits.temp)) (read ins 2 _ (omega arith) c.index-ins-2.is))
+    (same_cons _ _ _ _ (c.clamp_band-3.ensures.hull ∙
+    ap (hull1 (clamp limits.flow)) (read ins 3 _ (omega arith) c.index-ins-3.is))
+    (same_cons _ _ _ _ (c.clamp_band-4.ensures.hull ∙
+    ap (hull1 (clamp limits.temp)) (read ins 5 _ (omega arith) c.index-ins-5.is)) refl)))

@@ -15,7 +15,11 @@ returns c =
     let g : ℤ = slice_index_or c.args.ins.now 3 (pos 0) in
     let u : ℤ = slice_index_or c.args.ins.now 5 (pos 0) in
     filled c.args.new.now (_ ∷ _ ∷ _ ∷ _ ∷ []) c.requires.room
-    ∙ same_cons _ _ _ _ (given1 (clamp limits.flow) _ _ f (search rules) c.clamp.ensures.value (to_z-of_z w64 f (search rules)))
-    (same_cons _ _ _ _ (given1 (clamp limits.temp) _ _ t (search rules) c.clamp-2.ensures.value (to_z-of_z w64 t (search rules)))
-    (same_cons _ _ _ _ (given1 (clamp limits.flow) _ _ g (search rules) c.clamp-3.ensures.value (to_z-of_z w64 g (search rules)))
-    (same_cons _ _ _ _ (given1 (clamp limits.temp) _ _ u (search rules) c.clamp-4.ensures.value (to_z-of_z w64 u (search rules))) refl)))
+    ∙ same_cons _ _ _ _ (given1 (clamp limits.flow) _ _ f (search rules) c.clamp.ensures.value
+    (to_z-of_z w64 f (search rules)))
+    (same_cons _ _ _ _ (given1 (clamp limits.temp) _ _ t (search rules) c.clamp-2.ensures.value
+    (to_z-of_z w64 t (search rules)))
+    (same_cons _ _ _ _ (given1 (clamp limits.flow) _ _ g (search rules) c.clamp-3.ensures.value
+    (to_z-of_z w64 g (search rules)))
+    (same_cons _ _ _ _ (given1 (clamp limits.temp) _ _ u (search rules) c.clamp-4.ensures.value
+    (to_z-of_z w64 u (search rules))) refl)))

@@ -10,19 +10,24 @@ use Rattle.column_section.proofs.Columns.{bands-length, state-inside}
 use Rattle.column_section.proofs.column.ColumnKind.view_band.Goals as goal
 
 pub bounds-state-stages : goal.bounds-state-stages
-bounds-state-stages c = let n = bands-length c.args.self.now c.args.state.now c.requires.states in omega (arith, c.requires.sound.some)
+bounds-state-stages c = let n = bands-length c.args.self.now c.args.state.now c.requires.states in omega
+    (arith, c.requires.sound.some)
 
 pub bounds-state-stages-2 : goal.bounds-state-stages-2
-bounds-state-stages-2 c = let n = bands-length c.args.self.now c.args.state.now c.requires.states in omega (arith, c.requires.sound.some)
+bounds-state-stages-2 c = let n = bands-length c.args.self.now c.args.state.now c.requires.states in omega
+    (arith, c.requires.sound.some)
 
 pub bounds-state-stages-3 : goal.bounds-state-stages-3
-bounds-state-stages-3 c = let n = bands-length c.args.self.now c.args.state.now c.requires.states in omega (arith, c.requires.sound.some)
+bounds-state-stages-3 c = let n = bands-length c.args.self.now c.args.state.now c.requires.states in omega
+    (arith, c.requires.sound.some)
 
 pub bounds-state-stages-4 : goal.bounds-state-stages-4
-bounds-state-stages-4 c = let n = bands-length c.args.self.now c.args.state.now c.requires.states in omega (arith, c.requires.sound.some)
+bounds-state-stages-4 c = let n = bands-length c.args.self.now c.args.state.now c.requires.states in omega
+    (arith, c.requires.sound.some)
 
 pub bounds-state-stages-5 : goal.bounds-state-stages-5
-bounds-state-stages-5 c = let n = bands-length c.args.self.now c.args.state.now c.requires.states in omega (arith, c.requires.sound.some)
+bounds-state-stages-5 c = let n = bands-length c.args.self.now c.args.state.now c.requires.states in omega
+    (arith, c.requires.sound.some)
 
 pub bounds-state-0 : goal.bounds-state-0
 bounds-state-0 c =
@@ -32,7 +37,8 @@ bounds-state-0 c =
 
 pub gain_band-requires-clause-number : goal.gain_band-requires-clause-number
 gain_band-requires-clause-number c =
-    let h = state-inside c.args.self.now c.args.state.now 0 c.index-state-0.result c.requires.sound c.requires.states c.requires.sound.some c.index-state-0.is in
+    let h = state-inside c.args.self.now c.args.state.now 0 c.index-state-0.result c.requires.sound c.requires.states
+    c.requires.sound.some c.index-state-0.is in
     record { above = omega (arith, ints); below = omega (arith, ints) }
 
 pub returns : goal.returns

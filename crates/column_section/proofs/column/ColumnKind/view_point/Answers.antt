@@ -10,19 +10,24 @@ use Rattle.column_section.proofs.Columns.{states-length, state-held}
 use Rattle.column_section.proofs.column.ColumnKind.view_point.Goals as goal
 
 pub bounds-state-stages : goal.bounds-state-stages
-bounds-state-stages c = let n = states-length c.args.self.now c.args.state.now c.requires.states in omega (arith, c.requires.sound.some)
+bounds-state-stages c = let n = states-length c.args.self.now c.args.state.now c.requires.states in omega
+    (arith, c.requires.sound.some)
 
 pub bounds-state-stages-2 : goal.bounds-state-stages-2
-bounds-state-stages-2 c = let n = states-length c.args.self.now c.args.state.now c.requires.states in omega (arith, c.requires.sound.some)
+bounds-state-stages-2 c = let n = states-length c.args.self.now c.args.state.now c.requires.states in omega
+    (arith, c.requires.sound.some)
 
 pub bounds-state-stages-3 : goal.bounds-state-stages-3
-bounds-state-stages-3 c = let n = states-length c.args.self.now c.args.state.now c.requires.states in omega (arith, c.requires.sound.some)
+bounds-state-stages-3 c = let n = states-length c.args.self.now c.args.state.now c.requires.states in omega
+    (arith, c.requires.sound.some)
 
 pub bounds-state-stages-4 : goal.bounds-state-stages-4
-bounds-state-stages-4 c = let n = states-length c.args.self.now c.args.state.now c.requires.states in omega (arith, c.requires.sound.some)
+bounds-state-stages-4 c = let n = states-length c.args.self.now c.args.state.now c.requires.states in omega
+    (arith, c.requires.sound.some)
 
 pub bounds-state-stages-5 : goal.bounds-state-stages-5
-bounds-state-stages-5 c = let n = states-length c.args.self.now c.args.state.now c.requires.states in omega (arith, c.requires.sound.some)
+bounds-state-stages-5 c = let n = states-length c.args.self.now c.args.state.now c.requires.states in omega
+    (arith, c.requires.sound.some)
 
 pub gain-requires-clause-number : goal.gain-requires-clause-number
 gain-requires-clause-number c =
@@ -44,6 +49,8 @@ returns c =
     (same_cons _ _ _ _ (to_z-of_z w64 conc (search rules))
     (same_cons _ _ _ _ (to_z-of_z w64 temp (search rules))
     (same_cons _ _ _ _ (to_z-of_z w64 rising (search rules))
-    (same_cons _ _ _ _ (given1 (clamp column.limits.conc) _ c.clamp.result (gain Floor column.slope first) (search rules) c.clamp.ensures.value
-    (given2 (gain Floor) _ _ c.gain.result column.slope first (search rules) c.gain.ensures.value (to_z-of_z w64 column.slope (search rules)) (to_z-of_z w64 first (search rules))))
+    (same_cons _ _ _ _ (given1 (clamp column.limits.conc) _ c.clamp.result (gain Floor column.slope first)
+    (search rules) c.clamp.ensures.value
+    (given2 (gain Floor) _ _ c.gain.result column.slope first (search rules) c.gain.ensures.value
+    (to_z-of_z w64 column.slope (search rules)) (to_z-of_z w64 first (search rules))))
     (same_cons _ _ _ _ (to_z-of_z w64 hot (search rules)) refl)))))

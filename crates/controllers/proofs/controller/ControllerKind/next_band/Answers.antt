@@ -22,7 +22,8 @@ gain_band-requires-clause-number c =
 
 pub add_band-requires-clause-left : goal.add_band-requires-clause-left
 add_band-requires-clause-left c =
-    let h = integral-inside c.args.self.now c.args.state.now c.index-state-0.result c.requires.sound c.requires.states c.index-state-0.is in
+    let h = integral-inside c.args.self.now c.args.state.now c.index-state-0.result c.requires.sound c.requires.states
+    c.index-state-0.is in
     record { above = omega (arith, ints); below = omega (arith, ints) }
 
 pub gain_band-requires-2-clause-number : goal.gain_band-requires-2-clause-number
@@ -52,7 +53,8 @@ add_band-requires-3-clause-left c =
 
 pub add_band-requires-3-clause-right : goal.add_band-requires-3-clause-right
 add_band-requires-3-clause-right c =
-    let h = integral-inside c.args.self.now c.args.state.now c.index-state-0-2.result c.requires.sound c.requires.states c.index-state-0-2.is in
+    let h = integral-inside c.args.self.now c.args.state.now c.index-state-0-2.result c.requires.sound
+    c.requires.states c.index-state-0-2.is in
     record { above = omega (arith, ints); below = omega (arith, ints) }
 
 pub returns : goal.returns
@@ -67,22 +69,29 @@ returns c =
     let measured : Interval = slice_index_or ins 1 (point (pos 0)) in
     let kp : to_z w64 (of_z w64 controller.kp) ≡ controller.kp = to_z-of_z w64 controller.kp (search rules) in
     let ki : to_z w64 (of_z w64 controller.ki) ≡ controller.ki = to_z-of_z w64 controller.ki (search rules) in
-    let bias : c.point-bias.result ≡ point controller.bias = c.point-bias.ensures ∙ ap point (to_z-of_z w64 controller.bias (search rules)) in
+    let bias : c.point-bias.result ≡ point controller.bias = c.point-bias.ensures ∙
+    ap point (to_z-of_z w64 controller.bias (search rules)) in
     let error : Interval = hull2 ◌-ℤ◌ set measured in
     let e : c.sub_band-error.result ≡ error =
     hulled2 (hull2 ◌-ℤ◌) c.index-ins-0.result c.index-ins-1.result _ set measured c.sub_band-error.ensures.hull
     (read ins 0 _ (omega arith) c.index-ins-0.is) (read ins 1 _ (omega arith) c.index-ins-1.is) in
     let adds : c.gain_band.result ≡ hull1 (gain Floor controller.ki) error =
-    c.gain_band.ensures.hull ∙ (ap (λ (k : ℤ). hull1 (gain Floor k) c.sub_band-error.result) ki ∙ ap (hull1 (gain Floor controller.ki)) e) in
+    c.gain_band.ensures.hull ∙ (ap (λ (k : ℤ). hull1 (gain Floor k) c.sub_band-error.result) ki ∙
+    ap (hull1 (gain Floor controller.ki)) e) in
     let summed : c.add_band.result ≡ hull2 ◌+ℤ◌ integral (hull1 (gain Floor controller.ki) error) =
-    hulled2 (hull2 ◌+ℤ◌) c.index-state-0.result c.gain_band.result _ integral (hull1 (gain Floor controller.ki) error) c.add_band.ensures.hull
+    hulled2 (hull2 ◌+ℤ◌) c.index-state-0.result c.gain_band.result _ integral
+    (hull1 (gain Floor controller.ki) error) c.add_band.ensures.hull
     (read states 0 _ (omega arith) c.index-state-0.is) adds in
     let acts : c.gain_band-2.result ≡ hull1 (gain Floor controller.kp) error =
-    c.gain_band-2.ensures.hull ∙ (ap (λ (k : ℤ). hull1 (gain Floor k) c.sub_band-error.result) kp ∙ ap (hull1 (gain Floor controller.kp)) e) in
+    c.gain_band-2.ensures.hull ∙ (ap (λ (k : ℤ). hull1 (gain Floor k) c.sub_band-error.result) kp ∙
+    ap (hull1 (gain Floor controller.kp)) e) in
     let based : c.add_band-2.result ≡ hull2 ◌+ℤ◌ (point controller.bias) (hull1 (gain Floor controller.kp) error) =
-    hulled2 (hull2 ◌+ℤ◌) c.point-bias.result c.gain_band-2.result _ (point controller.bias) (hull1 (gain Floor controller.kp) error) c.add_band-2.ensures.hull bias acts in
-    let whole : c.add_band-3.result ≡ hull2 ◌+ℤ◌ (hull2 ◌+ℤ◌ (point controller.bias) (hull1 (gain Floor controller.kp) error)) integral =
-    hulled2 (hull2 ◌+ℤ◌) c.add_band-2.result c.index-state-0-2.result _ (hull2 ◌+ℤ◌ (point controller.bias) (hull1 (gain Floor controller.kp) error)) integral c.add_band-3.ensures.hull
+    hulled2 (hull2 ◌+ℤ◌) c.point-bias.result c.gain_band-2.result _ (point controller.bias)
+    (hull1 (gain Floor controller.kp) error) c.add_band-2.ensures.hull bias acts in
+    let whole : c.add_band-3.result ≡ hull2 ◌+ℤ◌
+    (hull2 ◌+ℤ◌ (point controller.bias) (hull1 (gain Floor controller.kp) error)) integral =
+    hulled2 (hull2 ◌+ℤ◌) c.add_band-2.result c.index-state-0-2.result _
+    (hull2 ◌+ℤ◌ (point controller.bias) (hull1 (gain Floor controller.kp) error)) integral c.add_band-3.ensures.hull
     based (read states 0 _ (omega arith) c.index-state-0-2.is) in
     filled c.args.new.now (_ ∷ _ ∷ []) c.requires.room
     ∙ same_cons _ _ _ _ (c.clamp_band.ensures.hull ∙ ap (hull1 (clamp controller.integral_limits)) summed)

@@ -52,15 +52,22 @@ returns c =
     let m : to_z w64 (of_z w64 measured) ≡ measured = to_z-of_z w64 measured (search rules) in
     let error : ℤ = set -ℤ measured in
     let e : to_z w64 (of_z w64 c.sub-error.result) ≡ error =
-    given2 ◌-ℤ◌ (to_z w64 (of_z w64 set)) (to_z w64 (of_z w64 measured)) _ set measured (search rules) c.sub-error.ensures s m in
-    let adds : to_z w64 (of_z w64 c.gain.result) ≡ gain Floor controller.ki error = given2 (gain Floor) _ _ _ controller.ki error (search rules) c.gain.ensures.value ki e in
+    given2 ◌-ℤ◌ (to_z w64 (of_z w64 set)) (to_z w64 (of_z w64 measured)) _ set measured
+    (search rules) c.sub-error.ensures s m in
+    let adds : to_z w64 (of_z w64 c.gain.result) ≡ gain Floor controller.ki error =
+    given2 (gain Floor) _ _ _ controller.ki error (search rules) c.gain.ensures.value ki e in
     let summed : to_z w64 (of_z w64 c.add.result) ≡ integral +ℤ gain Floor controller.ki error =
-    given2 ◌+ℤ◌ (to_z w64 (of_z w64 integral)) (to_z w64 (of_z w64 c.gain.result)) _ integral (gain Floor controller.ki error) (search rules) c.add.ensures i adds in
-    let acts : to_z w64 (of_z w64 c.gain-2.result) ≡ gain Floor controller.kp error = given2 (gain Floor) _ _ _ controller.kp error (search rules) c.gain-2.ensures.value kp e in
+    given2 ◌+ℤ◌ (to_z w64 (of_z w64 integral)) (to_z w64 (of_z w64 c.gain.result)) _ integral
+    (gain Floor controller.ki error) (search rules) c.add.ensures i adds in
+    let acts : to_z w64 (of_z w64 c.gain-2.result) ≡ gain Floor controller.kp error =
+    given2 (gain Floor) _ _ _ controller.kp error (search rules) c.gain-2.ensures.value kp e in
     let based : to_z w64 (of_z w64 c.add-2.result) ≡ controller.bias +ℤ gain Floor controller.kp error =
-    given2 ◌+ℤ◌ (to_z w64 (of_z w64 controller.bias)) (to_z w64 (of_z w64 c.gain-2.result)) _ controller.bias (gain Floor controller.kp error) (search rules) c.add-2.ensures bias acts in
+    given2 ◌+ℤ◌ (to_z w64 (of_z w64 controller.bias)) (to_z w64 (of_z w64 c.gain-2.result)) _ controller.bias
+    (gain Floor controller.kp error) (search rules) c.add-2.ensures bias acts in
     let whole : to_z w64 (of_z w64 c.add-3.result) ≡ (controller.bias +ℤ gain Floor controller.kp error) +ℤ integral =
-    given2 ◌+ℤ◌ (to_z w64 (of_z w64 c.add-2.result)) (to_z w64 (of_z w64 integral)) _ (controller.bias +ℤ gain Floor controller.kp error) integral (search rules) c.add-3.ensures based i in
+    given2 ◌+ℤ◌ (to_z w64 (of_z w64 c.add-2.result)) (to_z w64 (of_z w64 integral)) _
+    (controller.bias +ℤ gain Floor controller.kp error) integral (search rules) c.add-3.ensures based i in
     filled c.args.new.now (_ ∷ _ ∷ []) c.requires.room
     ∙ same_cons _ _ _ _ (given1 (clamp controller.integral_limits) _ _ _ (search rules) c.clamp.ensures.value summed)
-    (same_cons _ _ _ _ (given1 (clamp controller.limits.signal) _ _ _ (search rules) c.clamp-2.ensures.value whole) refl)
+    (same_cons _ _ _ _ (given1 (clamp controller.limits.signal) _ _ _ (search rules) c.clamp-2.ensures.value whole)
+    refl)

@@ -5,4 +5,5 @@ use Rattle.plant.proofs.build.made_links.reads_of.Given as goal
 
 -- the lists so far
 abbrev pub invariant-loop-unit : goal.invariant-loop-unit
-invariant-loop-unit l = map (λ r. r.items) l.reads.items ≡ map (λ x. givers_seen l.streams (reads_of x)) (take l.unit-index l.units)
+invariant-loop-unit l =
+    map (λ r. r.items) l.reads.items ≡ map (λ x. givers_seen l.streams (reads_of x)) (take l.unit-index l.units)

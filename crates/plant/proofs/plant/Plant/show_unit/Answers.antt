@@ -4,14 +4,14 @@ use Rattle.quant.specs.Interval.{Interval}
 use Rattle.plant_units.specs.declared.units.Unit.{Unit}
 use Rattle.plant_units.specs.Steps.{shows}
 use Rattle.plant_units.specs.Units.{units_of}
-use Rattle.plant.proofs.Lookups.{unit-there, bands-there}
+use Rattle.plant.proofs.Lookups.{item-there, bands-there}
 use Rattle.plant.proofs.Showing.{may-show, has-room, has-shown}
 use Rattle.plant.proofs.Rounds.{row-after}
 use Rattle.plant.proofs.plant.Plant.show_unit.Goals as goal
 
 pub show-requires-clause-may : goal.show-requires-clause-may
 show-requires-clause-may c =
-    let at = unit-there c.args.self.now c.args.number _ _ c.index-units-number.is c.units.ensures in
+    let at = item-there c.args.number _ _ _ c.index-units-number.is c.units.ensures in
     let state = bands-there c.args.states.now c.args.number _ _ _
     (omega (arith, c.requires.unit, c.requires.row.counted)) c.as_slice-state.ensures c.index-states-number.is in
     rw (at, state)
@@ -20,7 +20,7 @@ show-requires-clause-may c =
 
 pub show-requires-clause-room : goal.show-requires-clause-room
 show-requires-clause-room c =
-    let at = unit-there c.args.self.now c.args.number _ _ c.index-units-number.is c.units.ensures in
+    let at = item-there c.args.number _ _ _ c.index-units-number.is c.units.ensures in
     let state = bands-there c.args.states.now c.args.number _ _ _
     (omega (arith, c.requires.unit, c.requires.row.counted)) c.as_slice-state.ensures c.index-states-number.is in
     rw (at, state)
@@ -30,13 +30,13 @@ show-requires-clause-room c =
 pub returns-clause-shown : goal.returns-clause-shown
 returns-clause-shown c =
     let streams : List (List Interval) = c.args.streams.now in
-    let at = unit-there c.args.self.now c.args.number _ _ c.index-units-number.is c.units.ensures in
+    let at = item-there c.args.number _ _ _ c.index-units-number.is c.units.ensures in
     let state = bands-there c.args.states.now c.args.number _ _ _
     (omega (arith, c.requires.unit, c.requires.row.counted)) c.as_slice-state.ensures c.index-states-number.is in
+    let unit = get_or (units_of c.args.self.now) c.args.number c.index-units-number.result in
     let after = c.show.ensures
     ∙ (ap (λ (u : Unit). shows u c.as_slice-state.result.now streams) at
-    ∙ ap (λ (s : List Interval). shows (get_or (units_of c.args.self.now) c.args.number c.index-units-number.result) s streams)
-    state) in
+    ∙ ap (λ (s : List Interval). shows unit s streams) state) in
     rw after
     (has-shown c.args.self.now c.args.number _ c.args.states.now streams c.sound.ensures c.requires.row c.requires.unit)
 

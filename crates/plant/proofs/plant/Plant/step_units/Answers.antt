@@ -8,5 +8,7 @@ loop-number-init c = have_stepped-none c.args.self.now c.args.streams.now c.args
 
 pub loop-number-preserved : goal.loop-number-preserved
 loop-number-preserved c =
-    have_stepped-more c.args.self.now c.loop-number.number c.args.streams.now c.args.states.now c.loop-number.states c.step_unit.new.states
-    (omega (arith, c.requires.states.counted, c.loop-number-test.true)) c.loop-number.invariant c.step_unit.ensures.states c.step_unit.ensures.stepped
+    have_stepped-more c.args.self.now c.loop-number.number c.args.streams.now c.args.states.now c.loop-number.states
+    c.step_unit.new.states
+    (omega (arith, c.requires.states.counted, c.loop-number-test.true)) c.loop-number.invariant
+    c.step_unit.ensures.states c.step_unit.ensures.stepped

@@ -18,5 +18,6 @@ show_now-requires-in-Splitter-clause-few c =
     let x = c.args.self.now in
     let streams = c.args.streams.now in
     let i = ap is_instant c.in-Splitter.is in
-    subst (λ (ns : List ℕ). length (gathered ns streams) ≤ 24) (ap reads_of c.in-Splitter.is ∙ sym c.as_slice-in-Splitter.ensures)
+    subst (λ (ns : List ℕ). length (gathered ns streams) ≤ 24)
+    (ap reads_of c.in-Splitter.is ∙ sym c.as_slice-in-Splitter.ensures)
     (instant-few x (gathered (reads_of x) streams) i c.requires.may.sound (c.requires.may.inputs i))

@@ -16,5 +16,6 @@ returns-clause-row c =
     let two : 2 ≤ length fields = omega (arith, c.requires.two, length-map c.args.fields.now (λ f. f.now)) in
     let is_line : row_text (writer_setup w) fields ≡ _ = rw c.requires.ready.settings (row_text-line fields two) in
     on_ok_weaker c.write_fields.result
-    (λ written. written c.requires.ready.no_field c.requires.ready.no_byte plain ∙ ap (λ text. text_so_far w ++ text) is_line)
+    (λ written. written c.requires.ready.no_field c.requires.ready.no_byte plain
+    ∙ ap (λ text. text_so_far w ++ text) is_line)
     c.write_fields.ensures.bytes

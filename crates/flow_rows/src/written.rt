@@ -1,0 +1,65 @@
+//! What the program has to write.
+
+use std::alloc::Global;
+use std::test::Fail;
+
+pub const HEADER: &str = "tick,stream,channel,lo,hi\n";
+
+/// What is written.
+#[derive(Clone, Copy)]
+pub enum Written {
+    Text(&'static str),
+    /// The header, and the rows of these ticks. A tick is its streams with `;` between them, and a stream its name and
+    /// its bands: of flow, conc and temp, or of a signal's value. A band is its one number, or its ends with `..`
+    /// between.
+    Ticks(&'static [&'static str]),
+    /// Whatever ends with this.
+    Ends(&'static str),
+}
+
+fn push_row(
+    alloc: Global,
+    text: &mut String,
+    tick: usize,
+    (stream, channel): (&str, &str),
+    band: &str,
+) -> Result<(), Fail> {
+    let (lo, hi) = band.split_once("..").unwrap_or((band, band));
+    let row = format!(in alloc; "{tick},{stream},{channel},{lo},{hi}\n")?;
+    text.push_str(&row)?;
+    Ok(())
+}
+
+/// The rows of a stream at a tick.
+fn push_stream(alloc: Global, text: &mut String, tick: usize, stream: &str) -> Result<(), Fail> {
+    let words: Vec<&str> = stream.split_whitespace().collect(alloc)?;
+    match words.as_slice() {
+        [name, value] => push_row(alloc, text, tick, (name, "value"), value),
+        [name, flow, conc, temp] => {
+            push_row(alloc, text, tick, (name, "flow"), flow)?;
+            push_row(alloc, text, tick, (name, "conc"), conc)?;
+            push_row(alloc, text, tick, (name, "temp"), temp)
+        }
+        _ => Err("a stream has a name and one band or three".into()),
+    }
+}
+
+/// The header, and the rows of these ticks.
+pub fn output_of(alloc: Global, ticks: &[&str]) -> Result<String, Fail> {
+    let mut text = String::from_str(alloc, HEADER)?;
+    for (tick, streams) in ticks.iter().enumerate() {
+        for stream in streams.split(';') {
+            push_stream(alloc, &mut text, tick, stream)?;
+        }
+    }
+    Ok(text)
+}
+
+/// Whether it is what has to be written.
+pub fn is_written(alloc: Global, written: Written, found: &[u8]) -> Result<bool, Fail> {
+    Ok(match written {
+        Written::Text(text) => found == text.as_bytes(),
+        Written::Ticks(ticks) => found == output_of(alloc, ticks)?.as_bytes(),
+        Written::Ends(end) => found.ends_with(end.as_bytes()),
+    })
+}
