@@ -1,6 +1,6 @@
 -- What all kinds of units have in common, seen one kind after another.
 use Rattle.std.proofs.Common.{◌≡◌, ℕ, ◌-◌, pos, List, subst, ◌+◌, refl, zero, suc, [], arith, ◌∷◌, sym, ◌*◌, length}
-use Rattle.std.proofs.Common.{◌≤◌, map, ap, ◌∙◌, ◌<◌, true, true≢false}
+use Rattle.std.proofs.Common.{◌≤◌, map, ap, ◌∙◌, ◌<◌, true, false, true≢false}
 use Rattle.std.specs.Prelude.{slice_index_or, if◌then◌else◌}
 use Rattle.std.proofs.lemmas.List.{length-map, length-append}
 use Rattle.std.proofs.lemmas.List.FromFn.{length-range_with_len}
@@ -25,7 +25,7 @@ use Rattle.flowsheet.specs.Limited.{KeepsLimits}
 use Rattle.plant_units.specs.declared.units.Unit.{Unit}
 use Rattle.plant_units.specs.declared.units.Unit.TheVariants as unit
 use Rattle.plant_units.specs.Units.{sheet_unit, state_limits_of, output_limits_of, IsUnitSound, is_instant, MayTake}
-use Rattle.plant_units.specs.Steps.{steps}
+use Rattle.plant_units.specs.Steps.{steps, views}
 
 -- what a column reads from its states lies in the limits of its place
 placed : (column : Column) (state : List Interval) (place : ℕ) (A : Interval) →
@@ -150,6 +150,28 @@ column_states column =
     length-append (map (λ (i : ℕ). column.limits.conc) (columns.stages_of column)) (columns.register_limits column)
     ∙ ap (λ n. n + 4) (length-map (columns.stages_of column) (λ i. column.limits.conc)
     ∙ length-range_with_len 0 column.stages)
+
+-- a unit has few states
+pub states-few : (x : Unit) (state : List Interval) → IsUnitSound x → AllInside state (state_limits_of x) →
+    length state ≤ 68
+states-few (unit.Tank name tank inputs outputs opening) state sound inside =
+    omega (arith, inside-length state (tanks.state_limits tank) inside)
+states-few (unit.Reactor name reactor inputs outputs opening) state sound inside =
+    omega (arith, inside-length state (reactors.state_limits reactor) inside)
+states-few (unit.Column name column inputs outputs opening) state sound inside =
+    omega (arith, inside-length state (columns.state_limits column) inside, column_states column, sound.few)
+states-few (unit.Controller name controller inputs outputs opening) state sound inside =
+    omega (arith, inside-length state (controllers.state_limits controller) inside)
+states-few (unit.Mixer name mixer inputs outputs opening) state sound inside =
+    omega (arith, inside-length state [] inside)
+states-few (unit.Splitter name splitter inputs outputs opening) state sound inside =
+    omega (arith, inside-length state [] inside)
+
+-- a unit that holds something back shows the same whatever its inputs are
+pub views-held : (x : Unit) (state ins others : List Interval) → is_instant x ≡ false →
+    views x state ins ≡ views x state others
+unfolding views
+views-held x state ins others e = rw e refl
 
 -- where there is a state, there are few inputs
 pub inputs-few : (x : Unit) (state ins : List Interval) → AllInside state (state_limits_of x) → MayTake x ins →

@@ -1,16 +1,12 @@
 //! One unit's part of a tick: it gives its streams what it shows, and steps its states.
 
-ghost use Rattle.std.specs.Prelude.{◌≡◌, ◌<◌, ◌≤◌, ◌+◌, length, take};
+ghost use Rattle.std.specs.Prelude.{◌≡◌, ◌<◌, ◌≤◌, ◌+◌, true, length, take};
 ghost use Rattle.std.specs.List.{AllByRecursion};
 ghost use Rattle.quant.specs.Interval.{AllInside};
-ghost use Rattle.quant.specs.Rounding.{Floor};
-ghost use Rattle.quant.specs.Term.{intervals};
-ghost use Rattle.column_section.specs.Column.{IsSound, MayTakeBands, next_terms, state_limits};
-ghost use Rattle.plant_units.specs.Units.{reads_of, gives_of, state_limits_of, IsUnitSound, MayTake};
+ghost use Rattle.plant_units.specs.Units.{reads_of, gives_of, state_limits_of, is_instant, IsUnitSound, MayTake};
 ghost use Rattle.plant_units.specs.Steps.{gathered, spread, HasRoom, width_of, views, MayShow, shows, MayStep, steps};
 
 use crate::units::{Bands, Unit};
-use column_section::Column;
 use quant::{Band, Instant, Kind};
 
 /// The most input channels of a unit that holds something back, a column, and of any unit, a mixer of 8 streams.
@@ -18,8 +14,10 @@ const KIND_INPUTS: usize = 6;
 
 const INSTANT_INPUTS: usize = 24;
 
-/// The most output channels of a unit, and the most states of a column.
+/// The most output channels of a unit, and the most states of one that is no column, and of a column.
 const OUTPUTS: usize = 6;
+
+const FEW_STATES: usize = 4;
 
 const COLUMN_STATES: usize = 68;
 
@@ -53,49 +51,9 @@ fn spread(numbers: &[u32], outs: &[Band], streams: &mut [Bands])
     }
 }
 
-/// Makes the outputs of a unit that holds nothing back, from the streams that it reads.
-fn show_now<U: Instant>(unit: &U, numbers: &[u32], streams: &[Bands], outs: &mut [Band])
-    requires sound { U.is_sound unit.now }
-    requires known { AllByRecursion (λ s. s < length streams.now) numbers.now }
-    requires few { length (gathered numbers.now streams.now) ≤ 24 }
-    requires inputs { U.may_take_bands unit.now (gathered numbers.now streams.now) }
-    requires room { length outs.old ≡ length (U.output_limits unit.now) }
-    ensures { outs.new ≡ U.now_hull unit.now (gathered numbers.now streams.now) }
-{
-    let mut ins = [Band::point(0); INSTANT_INPUTS];
-    let count = gather(numbers, streams, &mut ins);
-    unit.now_band(&ins[..count], outs);
-}
-
-/// Steps the states of a unit that holds something back; `new` has room for them.
-#[tactic(auto, using(crate::proofs::AllKinds::inside_length))]
-fn next_states<U: Kind>(unit: &U, state: &mut Bands, ins: &[Band], new: &mut [Band])
-    requires sound { U.is_sound unit.now }
-    requires states { AllInside state.old (U.state_limits unit.now) }
-    requires inputs { U.may_take_bands unit.now ins.now }
-    requires room { length new.old ≡ length (U.state_limits unit.now) }
-    ensures { state.new ≡ U.next_hull unit.now state.old ins.now }
-{
-    unit.next_band(state.as_slice(), ins, new);
-    state.write(new);
-}
-
-/// Steps the states of a column.
-#[tactic(auto, using(crate::proofs::AllKinds::column_states))]
-fn next_column(column: &Column, state: &mut Bands, ins: &[Band])
-    requires sound { IsSound column.now }
-    requires states { AllInside state.old (state_limits column.now) }
-    requires inputs { MayTakeBands column.now ins.now }
-    ensures { state.new ≡ intervals Floor (next_terms column.now) state.old ins.now }
-{
-    let mut room = [Band::point(0); COLUMN_STATES];
-    let new = &mut room[..column.stages as usize + 4];
-    next_states(column, state, ins, new);
-}
-
 impl Unit {
     /// How many channels its outputs have.
-    fn width(&self) -> usize
+    pub fn width(&self) -> usize
         ensures { result ≡ width_of self.now }
     {
         match self {
@@ -107,20 +65,50 @@ impl Unit {
         }
     }
 
-    /// Makes its outputs: from its states, or from the streams that it reads where it holds nothing back.
+    /// Whether it holds nothing back.
+    fn is_instant(&self) -> bool
+        ensures { result ≡ is_instant self.now }
+    {
+        match self {
+            Unit::Mixer { .. } | Unit::Splitter { .. } => true,
+            Unit::Tank { .. }
+            | Unit::Reactor { .. }
+            | Unit::Column { .. }
+            | Unit::Controller { .. } => false,
+        }
+    }
+
+    /// Makes its outputs, one after another: from its states, or from its inputs where it holds nothing back.
     #[tactic(auto, unfolding(crate::specs::Steps::views))]
-    fn view(&self, state: &[Band], streams: &[Bands], outs: &mut [Band])
-        requires may { MayShow self.now state.now streams.now }
+    pub fn view_from(&self, state: &[Band], ins: &[Band], outs: &mut [Band])
+        requires sound { IsUnitSound self.now }
+        requires states { AllInside state.now (state_limits_of self.now) }
+        requires inputs { is_instant self.now ≡ true → MayTake self.now ins.now }
         requires room { length outs.old ≡ width_of self.now }
-        ensures { outs.new ≡ views self.now state.now (gathered (reads_of self.now) streams.now) }
+        ensures { outs.new ≡ views self.now state.now ins.now }
     {
         match self {
             Unit::Tank { unit, .. } => unit.view_band(state, outs),
             Unit::Reactor { unit, .. } => unit.view_band(state, outs),
             Unit::Column { unit, .. } => unit.view_band(state, outs),
             Unit::Controller { unit, .. } => unit.view_band(state, outs),
-            Unit::Mixer { unit, inputs, .. } => show_now(unit, inputs.as_slice(), streams, outs),
-            Unit::Splitter { unit, inputs, .. } => show_now(unit, inputs.as_slice(), streams, outs),
+            Unit::Mixer { unit, .. } => unit.now_band(ins, outs),
+            Unit::Splitter { unit, .. } => unit.now_band(ins, outs),
+        }
+    }
+
+    /// Makes its outputs, and reads the streams where it holds nothing back.
+    fn view(&self, state: &[Band], streams: &[Bands], outs: &mut [Band])
+        requires may { MayShow self.now state.now streams.now }
+        requires room { length outs.old ≡ width_of self.now }
+        ensures { outs.new ≡ views self.now state.now (gathered (reads_of self.now) streams.now) }
+    {
+        if self.is_instant() {
+            let mut ins = [Band::point(0); INSTANT_INPUTS];
+            let count = gather(self.inputs(), streams, &mut ins);
+            self.view_from(state, &ins[..count], outs);
+        } else {
+            self.view_from(state, &[], outs);
         }
     }
 
@@ -137,23 +125,35 @@ impl Unit {
         spread(self.outputs(), outs, streams);
     }
 
-    /// Steps its states, with these inputs.
-    #[tactic(auto, unfolding(crate::specs::Steps::steps), using(crate::proofs::AllKinds::none_inside))]
-    fn next(&self, state: &mut Bands, ins: &[Band])
+    /// Makes its states at the next tick. A unit without states leaves `new` empty.
+    #[tactic(auto, unfolding(crate::specs::Steps::steps))]
+    pub fn next(&self, state: &[Band], ins: &[Band], new: &mut [Band])
+        requires sound { IsUnitSound self.now }
+        requires states { AllInside state.now (state_limits_of self.now) }
+        requires inputs { MayTake self.now ins.now }
+        requires room { length new.old ≡ length (state_limits_of self.now) }
+        ensures { new.new ≡ steps self.now state.now ins.now }
+    {
+        match self {
+            Unit::Tank { unit, .. } => unit.next_band(state, ins, new),
+            Unit::Reactor { unit, .. } => unit.next_band(state, ins, new),
+            Unit::Column { unit, .. } => unit.next_band(state, ins, new),
+            Unit::Controller { unit, .. } => unit.next_band(state, ins, new),
+            Unit::Mixer { .. } | Unit::Splitter { .. } => {}
+        }
+    }
+
+    /// Steps its states, with these inputs, in a room for as many states.
+    fn step_in(&self, state: &mut Bands, ins: &[Band], room: &mut [Band])
         requires sound { IsUnitSound self.now }
         requires states { AllInside state.old (state_limits_of self.now) }
         requires inputs { MayTake self.now ins.now }
+        requires room { length state.old ≤ length room.old }
         ensures { state.new ≡ steps self.now state.old ins.now }
     {
-        match self {
-            Unit::Tank { unit, .. } => next_states(unit, state, ins, &mut [Band::point(0); 4]),
-            Unit::Reactor { unit, .. } => next_states(unit, state, ins, &mut [Band::point(0); 4]),
-            Unit::Column { unit, .. } => next_column(unit, state, ins),
-            Unit::Controller { unit, .. } => {
-                next_states(unit, state, ins, &mut [Band::point(0); 2]);
-            }
-            Unit::Mixer { .. } | Unit::Splitter { .. } => {}
-        }
+        let new = &mut room[..state.as_slice().len()];
+        self.next(state.as_slice(), ins, new);
+        state.write(new);
     }
 
     /// Steps its states, with the streams that it reads.
@@ -161,11 +161,16 @@ impl Unit {
         requires { MayStep self.now state.old streams.now }
         ensures { state.new ≡ steps self.now state.old (gathered (reads_of self.now) streams.now) }
     {
-        if state.as_slice().is_empty() {
+        let states = state.as_slice().len();
+        if states == 0 {
             return;
         }
         let mut ins = [Band::point(0); KIND_INPUTS];
         let count = gather(self.inputs(), streams, &mut ins);
-        self.next(state, &ins[..count]);
+        if states <= FEW_STATES {
+            self.step_in(state, &ins[..count], &mut [Band::point(0); FEW_STATES]);
+        } else {
+            self.step_in(state, &ins[..count], &mut [Band::point(0); COLUMN_STATES]);
+        }
     }
 }

@@ -6,5 +6,5 @@ use Rattle.plant_units.proofs.units.Unit.next.Goals as goal
 
 pub returns-in-Reactor : goal.returns-in-Reactor
 unfolding steps
-returns-in-Reactor c = c.next_states-in-Reactor.ensures
+returns-in-Reactor c = c.next_band-in-Reactor.ensures
     ∙ sym (ap (λ (x : Unit). steps x c.args.state.now c.args.ins.now) c.in-Reactor.is)

@@ -1,23 +1,18 @@
--- A unit that holds nothing back reads 24 channels at most.
-use Rattle.std.proofs.Common.{◌≤◌, ◌∙◌, List, ℕ, length, ap, sym, subst}
+-- A unit that holds nothing back reads 24 channels at most, and one that holds something back reads none.
+use Rattle.std.proofs.Common.{◌≤◌, ◌∙◌, List, ℕ, length, sym, subst}
 use Rattle.plant_units.specs.Steps.{gathered}
-use Rattle.plant_units.specs.Units.{reads_of, is_instant}
-use Rattle.plant_units.proofs.AllKinds.{instant-few}
+use Rattle.plant_units.specs.Units.{reads_of}
+use Rattle.plant_units.proofs.AllKinds.{instant-few, views-held}
 use Rattle.plant_units.proofs.units.Unit.view.Goals as goal
 
-pub show_now-requires-clause-few : goal.show_now-requires-clause-few
-show_now-requires-clause-few c =
+pub gather-count-requires-clause-room : goal.gather-count-requires-clause-room
+gather-count-requires-clause-room c =
     let x = c.args.self.now in
     let streams = c.args.streams.now in
-    let i = ap is_instant c.in-Mixer.is in
-    subst (λ (ns : List ℕ). length (gathered ns streams) ≤ 24) (ap reads_of c.in-Mixer.is ∙ sym c.as_slice.ensures)
+    let i = sym c.is_instant.ensures ∙ c.if-is_instant.true in
+    subst (λ (ns : List ℕ). length (gathered ns streams) ≤ 24) (sym c.inputs.ensures)
     (instant-few x (gathered (reads_of x) streams) i c.requires.may.sound (c.requires.may.inputs i))
 
-pub show_now-requires-in-Splitter-clause-few : goal.show_now-requires-in-Splitter-clause-few
-show_now-requires-in-Splitter-clause-few c =
-    let x = c.args.self.now in
-    let streams = c.args.streams.now in
-    let i = ap is_instant c.in-Splitter.is in
-    subst (λ (ns : List ℕ). length (gathered ns streams) ≤ 24)
-    (ap reads_of c.in-Splitter.is ∙ sym c.as_slice-in-Splitter.ensures)
-    (instant-few x (gathered (reads_of x) streams) i c.requires.may.sound (c.requires.may.inputs i))
+pub returns-else-is_instant : goal.returns-else-is_instant
+returns-else-is_instant c = c.view_from-else-is_instant.ensures
+    ∙ views-held c.args.self.now c.args.state.now _ _ (sym c.is_instant.ensures ∙ c.if-is_instant.false)
