@@ -20,23 +20,8 @@ use Rattle.plant.specs.Rows.{streams_of_run}
 use Rattle.plant_streams.specs.Limits.{limits_at}
 use Rattle.plant.specs.Sound.{IsPlant, IsSource}
 use Rattle.plant.proofs.Lookups.{from_feed, from_port, from, item, sound-at, unit-is, outputs-are, origin-is, streams-counted}
-use Rattle.plant.proofs.PlantLaws.{plant-sound, parts-ranked, parts-limited, parts-bands, parts-fed}
+use Rattle.plant.proofs.PlantLaws.{plant-sound, port-limits, parts-ranked, parts-limited, parts-bands, parts-fed}
 use Rattle.report.specs.Output.{channels}
-
--- the limits of a unit's output are those of its stream
-port-limits : (parts : FileParts) → IsPlant parts → (s u p : ℕ) → IsSource parts s (source.Port u p) →
-    slice_index_or (sheet.unit_at (plant_of parts) u).output_limits p [] ≡ limits_at parts s
-unfolding sheet_unit
-port-limits parts plant s u p k =
-    let sound = plant-sound parts plant in
-    let x : Unit = item (units_of parts) u k.0 in
-    let t = sound-at parts u x sound.units k.0 in
-    let y : Unit = get_or (units_of parts) u x in
-    let o = outputs-are parts u x k.0 in
-    let l : p < length (gives_of y) = subst (λ (ns : List ℕ). p < length ns) o k.1 in
-    let at : slice_index (gives_of y) p ≡ s = sym (ap (λ ns. slice_index ns p) o) ∙ k.2 in
-    ap (λ (v : sheet.PlantUnit). slice_index_or v.output_limits p []) (unit-is parts u x k.0)
-    ∙ sym (t.limits p l) ∙ ap (limits_at parts) at
 
 run-limits : (parts : FileParts) → IsPlant parts → (tick s : ℕ) → s < length (streams_of parts) →
     length (streams_of_run parts tick s) ≡ length (limits_at parts s)
@@ -49,7 +34,7 @@ run-limits parts plant tick s h = elim (from parts s (plant-sound parts plant) h
       inside-length _ _ (stream-limited (plant_of parts) (carried_of parts) (given_bands parts) (tick + 1)
       (parts-ranked parts plant) (parts-bands parts (tick + 1) plant) (parts-limited parts plant) tick s u p
       (omega arith) (omega (arith, streams-counted parts)) (origin-is parts s (source.Port u p) e))
-      ∙ ap length (port-limits parts plant s u p k)
+      ∙ ap length (port-limits parts u p s plant (h, e))
 ]
 
 -- a signal has one channel, a material stream three

@@ -1,6 +1,7 @@
 pub mod BuildVerdicts
 pub mod Feeds
 pub mod Givens
+pub mod Inputs
 pub mod Judgements
 pub mod Lookups
 pub mod Numbers

@@ -1,17 +1,22 @@
 -- What the checks of a plant's parts give, and what a plant's parts are.
-use Rattle.std.proofs.Common.{◌≡◌, ◌<◌, ℕ, Ok, length, refl, suc}
+use Rattle.std.proofs.Common.{◌≡◌, ◌∙◌, ◌<◌, ℕ, List, [], Ok, length, get_or, refl, suc, sym, ap, subst}
+use Rattle.std.specs.Prelude.{slice_index, slice_index_or}
 use Rattle.quant.specs.Interval.{AllInside}
+use Rattle.flowsheet.specs.Plant as sheet
 use Rattle.flowsheet.specs.Plant.{IsRanked}
 use Rattle.flowsheet.specs.Limited.{IsLimited, AreBands}
 use Rattle.parts.specs.Parts.{FileParts}
 use Rattle.parts.specs.InRange.{AreInRange}
 use Rattle.parts.specs.Given.{given_bands}
+use Rattle.plant_streams.specs.declared.streams.StreamSource.TheVariants as source
 use Rattle.plant_streams.specs.Streams.{streams_of}
 use Rattle.plant_streams.specs.Limits.{source_at, limits_at}
 use Rattle.plant_checks.specs.Checks.{checked, Checked}
 use Rattle.plant_checks.proofs.Passed.{ArePassed, are-passed}
-use Rattle.plant_units.specs.Units.{units_of}
-use Rattle.plant.specs.Sound.{ArePartsSound, AreSoundFrom, IsSource, IsPlant}
+use Rattle.plant_units.specs.declared.units.Unit.{Unit}
+use Rattle.plant_units.specs.Units.{units_of, sheet_unit, gives_of}
+use Rattle.plant.specs.Sound.{ArePartsSound, AreSoundFrom, IsSource, IsOutput, IsPlant}
+use Rattle.plant.proofs.Lookups.{item, sound-at, unit-is, outputs-are}
 use Rattle.plant.proofs.OwnLimits.{stream-limits}
 use Rattle.plant.proofs.Numbers.{feeds-first, feeds-there}
 use Rattle.plant.proofs.Sources.{by-source, length-units_of}
@@ -66,6 +71,26 @@ parts-bands parts n plant = all-bands parts n plant.ranges (plant-sound parts pl
 pub parts-fed : (parts : FileParts) → IsPlant parts →
     (tick f : ℕ) → f < length parts.feeds → AllInside (given_bands parts tick f) (limits_at parts f)
 parts-fed parts plant tick f l = given-inside parts plant.ranges (are-passed parts plant.passes) tick f l
+
+-- the limits of a unit's output are those of its stream
+source-limits : (parts : FileParts) → IsPlant parts → (s u p : ℕ) → IsSource parts s (source.Port u p) →
+    slice_index_or (sheet.unit_at (plant_of parts) u).output_limits p [] ≡ limits_at parts s
+unfolding sheet_unit
+source-limits parts plant s u p k =
+    let sound = plant-sound parts plant in
+    let x : Unit = item (units_of parts) u k.0 in
+    let t = sound-at parts u x sound.units k.0 in
+    let y : Unit = get_or (units_of parts) u x in
+    let o = outputs-are parts u x k.0 in
+    let l : p < length (gives_of y) = subst (λ (ns : List ℕ). p < length ns) o k.1 in
+    let at : slice_index (gives_of y) p ≡ s = sym (ap (λ ns. slice_index ns p) o) ∙ k.2 in
+    ap (λ (v : sheet.PlantUnit). slice_index_or v.output_limits p []) (unit-is parts u x k.0)
+    ∙ sym (t.limits p l) ∙ ap (limits_at parts) at
+
+pub port-limits : (parts : FileParts) (u p s : ℕ) → IsPlant parts → IsOutput parts u p s →
+    slice_index_or (sheet.unit_at (plant_of parts) u).output_limits p [] ≡ limits_at parts s
+port-limits parts u p s plant out =
+    source-limits parts plant s u p (subst (IsSource parts s) out.1 ((plant-sound parts plant).sources s out.0))
 
 pub opening-states : (parts : FileParts) → IsPlant parts → HasStatesOf parts 0 (opening_row parts)
 opening-states parts plant u l = refl

@@ -27,6 +27,7 @@ use Rattle.plant.specs.Rows.{IsRow}
 use Rattle.plant.specs.Sound.{IsSoundUnit, ArePartsSound, outputs_at, IsSource}
 use Rattle.plant.specs.PlantOf.{plant_of}
 use Rattle.plant.specs.Steps.{IsReady, shown_by, shown_at, HasShown}
+use Rattle.plant.proofs.Inputs.{takes-streams}
 use Rattle.plant.proofs.Lookups.{sound-at, unit-is, From, from_feed, from_port, from, outputs-are}
 use Rattle.plant.proofs.Stepping.{states-inside}
 
@@ -91,7 +92,7 @@ ready-takes parts n x streams t ready e i =
     subst (MayTake x)
     (sym (sym (ap (λ (u : sheet.PlantUnit). inputs_of u (bands_at streams)) e)
     ∙ (others.2 ∙ ap (λ (u : sheet.PlantUnit). inputs_of u others.0) e)))
-    (t.takes others.0 others.1)
+    (takes-streams parts n x others.0 t others.1)
 
 pub may-show : (parts : FileParts) (n : ℕ) (x : Unit) (states streams : List (List Interval)) → ArePartsSound parts →
     IsRow parts (record { states = states; streams = streams }) → IsReady parts n streams →

@@ -13,6 +13,7 @@ use Rattle.plant_units.specs.Units.{units_of, sheet_unit, state_limits_of, reads
 use Rattle.plant_units.specs.Steps.{bands_at, MayStep, gathered, steps}
 use Rattle.plant_units.proofs.AllKinds.{steps-inside}
 use Rattle.plant.specs.PlantOf.{plant_of}
+use Rattle.plant.proofs.Inputs.{takes-streams}
 use Rattle.plant.proofs.Lookups.{unit-is, sound-at}
 use Rattle.plant.specs.Sound.{ArePartsSound}
 use Rattle.plant.specs.Steps.{AreStreams, AreStates, stepped_by, HaveStepped}
@@ -43,7 +44,7 @@ may-step parts n x states streams s a b h =
       states = states-inside parts n x (bands_at states n) h (a.inside n h);
       known = subst (λ (k : ℕ). AllByRecursion (λ q. q < k) (reads_of (get_or (units_of parts) n x)))
           (sym b.counted) t.reads;
-      inputs = t.takes (bands_at streams) b.inside;
+      inputs = takes-streams parts n (get_or (units_of parts) n x) (bands_at streams) t b.inside;
     }
 
 -- its steps are the definitions'

@@ -24,7 +24,6 @@ use Rattle.plant_checks.specs.Checks.{refuse_if, is_too_fast, greatest_flow, col
 use Rattle.plant_checks.proofs.Passed.{passes-test}
 use Rattle.plant_units.specs.Units.{made_unit, inputs_of, MayTake}
 use Rattle.plant.proofs.Numbers.{number_named, IsFound, AreFound}
-use Rattle.plant.specs.Sound.{AreInside}
 
 -- intervals inside others
 inside-through : (A B C : Interval) → IsInside A B → IsInside B C → IsInside A C
@@ -75,27 +74,27 @@ limits_named parts reference = source_limits parts (source_at parts (number_name
 abbrev channels_named : FileParts → Reference → List Interval
 channels_named parts reference = channel_limits (limits_named parts reference) reference.signal
 
--- bands of streams in their limits: what a unit reads of them lies there
-named-inside : (parts : FileParts) (streams : ℕ → List Interval) (reference : Reference) → AreInside parts streams →
-    IsFound (streams_of parts) reference →
-    AllInside (streams (number_named (streams_of parts) reference)) (channels_named parts reference)
-named-inside parts streams reference inside found =
-    let s : ℕ = number_named (streams_of parts) reference in
-    subst (AllInside (streams s))
-    (limits-at parts s found.there ∙ ap (channel_limits (limits_named parts reference)) found.fits)
-    (inside s found.there)
+-- the limits of what a unit reads
+named-limits : (parts : FileParts) (reference : Reference) → IsFound (streams_of parts) reference →
+    limits_at parts (number_named (streams_of parts) reference) ≡ channels_named parts reference
+named-limits parts reference found =
+    limits-at parts (number_named (streams_of parts) reference) found.there
+    ∙ ap (channel_limits (limits_named parts reference)) found.fits
 
-reads-inside : (parts : FileParts) (streams : ℕ → List Interval) (references : List Reference) →
-    AreInside parts streams →
+read-limits : (parts : FileParts) (references : List Reference) → AreFound (streams_of parts) references →
+    flat_map (limits_at parts) (map (number_named (streams_of parts)) references)
+    ≡ flat_map (channels_named parts) references
+read-limits parts [] found = refl
+read-limits parts (reference ∷ references) found =
+    ap (λ limits. limits ++ flat_map (limits_at parts) (map (number_named (streams_of parts)) references))
+    (named-limits parts reference found.0)
+    ∙ ap (λ rest. channels_named parts reference ++ rest) (read-limits parts references found.1)
+
+reads-inside : (parts : FileParts) (row : List Interval) (references : List Reference) →
+    AllInside row (flat_map (limits_at parts) (map (number_named (streams_of parts)) references)) →
     AreFound (streams_of parts) references →
-    AllInside (flat_map streams (map (number_named (streams_of parts)) references))
-    (flat_map (channels_named parts) references)
-reads-inside parts streams [] inside found = tt
-reads-inside parts streams (reference ∷ references) inside found =
-    inside-append (streams (number_named (streams_of parts) reference))
-    (flat_map streams (map (number_named (streams_of parts)) references))
-    (channels_named parts reference) (flat_map (channels_named parts) references)
-    (named-inside parts streams reference inside found.0) (reads-inside parts streams references inside found.1)
+    AllInside row (flat_map (channels_named parts) references)
+reads-inside parts row references inside found = subst (AllInside row) (read-limits parts references found) inside
 
 -- and these lie where the channels of any stream lie
 abbrev pub HaveLimits : FileParts → Type 0
@@ -110,13 +109,12 @@ channels-widest parts (reference ∷ references) limits =
     (limits-widest (limits_named parts reference) reference.signal (limits (number_named (streams_of parts) reference)))
     (channels-widest parts references limits)
 
-reads-widest : (parts : FileParts) (streams : ℕ → List Interval) (references : List Reference) →
-    AreInside parts streams →
+reads-widest : (parts : FileParts) (row : List Interval) (references : List Reference) →
+    AllInside row (flat_map (limits_at parts) (map (number_named (streams_of parts)) references)) →
     HaveLimits parts → AreFound (streams_of parts) references →
-    AllInside (flat_map streams (map (number_named (streams_of parts)) references))
-    (flat_map (λ reference. widest reference.signal) references)
-reads-widest parts streams references inside limits found =
-    all-through _ (flat_map (channels_named parts) references) _ (reads-inside parts streams references inside found)
+    AllInside row (flat_map (λ reference. widest reference.signal) references)
+reads-widest parts row references inside limits found =
+    all-through _ (flat_map (channels_named parts) references) _ (reads-inside parts row references inside found)
     (channels-widest parts references limits)
 
 -- a mixer reads streams of flow, conc and temp alone
@@ -165,40 +163,39 @@ column-drains parts holdup slope liquid vapour ins refusal s a b f g inside e =
 pub made-takes : (parts : FileParts) (name : List ℕ) (limits : Limits) (outputs : List ℕ) (kind : KindPart) →
     IsKindPart kind →
     AreFound (streams_of parts) (references_of kind) → HaveLimits parts → column_kind_check parts name kind ≡ Ok tt →
-    (streams : ℕ → List Interval) → AreInside parts streams →
-    MayTake (made_unit name limits (inputs_of (streams_of parts) kind) outputs kind)
-    (flat_map streams (inputs_of (streams_of parts) kind))
+    (row : List Interval) → AllInside row (flat_map (limits_at parts) (inputs_of (streams_of parts) kind)) →
+    MayTake (made_unit name limits (inputs_of (streams_of parts) kind) outputs kind) row
 unfolding made_unit references_of column_kind_check
 made-takes parts name limits outputs (part.Tank input valve k volume flow conc temp) range found wide checks
-    streams inside =
-    reads-widest parts streams (references_of (part.Tank input valve k volume flow conc temp)) inside wide found
+    row inside =
+    reads-widest parts row (references_of (part.Tank input valve k volume flow conc temp)) inside wide found
 made-takes parts name limits outputs (part.Reactor input valve jacket k rate heat ua volume flow conc temp)
     range found wide
-    checks streams inside =
-    reads-widest parts streams (references_of (part.Reactor input valve jacket k rate heat ua volume flow conc temp))
+    checks row inside =
+    reads-widest parts row (references_of (part.Reactor input valve jacket k rate heat ua volume flow conc temp))
     inside wide
     found
 made-takes parts name limits outputs
     (part.Column liquid vapour stages holdup slope x liquid_flow liquid_temp vapour_flow vapour_temp) range
     found wide checks
-    streams inside =
+    row inside =
     let kind : KindPart =
     part.Column liquid vapour stages holdup slope x liquid_flow liquid_temp vapour_flow vapour_temp in
     record {
-      held = reads-widest parts streams (references_of kind) inside wide found;
+      held = reads-widest parts row (references_of kind) inside wide found;
       drainable = column-drains parts holdup slope (needs_material (codes "liquid") liquid)
           (needs_material (codes "vapour") vapour) _ _
-          range.5.above refl refl found.0 found.1.0 (reads-inside parts streams (references_of kind) inside found)
+          range.5.above refl refl found.0 found.1.0 (reads-inside parts row (references_of kind) inside found)
           checks;
     }
 made-takes parts name limits outputs (part.Controller set measured kp ki bias integral_limits integral out)
     range found wide
-    checks streams inside =
-    reads-widest parts streams (references_of (part.Controller set measured kp ki bias integral_limits integral out))
+    checks row inside =
+    reads-widest parts row (references_of (part.Controller set measured kp ki bias integral_limits integral out))
     inside wide
     found
-made-takes parts name limits outputs (part.Mixer input) range found wide checks streams inside =
-    subst (AllInside (flat_map streams (inputs_of (streams_of parts) (part.Mixer input)))) (mixer-widest 0 input)
-    (reads-widest parts streams (references_of (part.Mixer input)) inside wide found)
-made-takes parts name limits outputs (part.Splitter input share) range found wide checks streams inside =
-    reads-widest parts streams (references_of (part.Splitter input share)) inside wide found
+made-takes parts name limits outputs (part.Mixer input) range found wide checks row inside =
+    subst (AllInside row) (mixer-widest 0 input)
+    (reads-widest parts row (references_of (part.Mixer input)) inside wide found)
+made-takes parts name limits outputs (part.Splitter input share) range found wide checks row inside =
+    reads-widest parts row (references_of (part.Splitter input share)) inside wide found

@@ -1,9 +1,11 @@
 -- Each unit that passes the checks is sound.
 use Rattle.std.proofs.Common.{◌≡◌, ℕ, Ok, List, suc, ◌∷◌, arith, zero, ◌+◌, ◌<◌, false, [], ◌++◌, length, map}
-use Rattle.std.proofs.Common.{slice_index_or, refl, ◌∙◌, slice_index, ap, Bool}
+use Rattle.std.proofs.Common.{slice_index_or, refl, ◌∙◌, slice_index, ap, Bool, subst}
+use Rattle.std.specs.Prelude.{flat_map}
 use Rattle.std.specs.List.{AllByRecursion, range_with_len}
 use Rattle.std.proofs.lemmas.List.{length-append}
 use Rattle.std.proofs.lemmas.List.FromFn.{length-range_with_len, get_or-range_with_len}
+use Rattle.quant.specs.Interval.{AllInside}
 use Rattle.quant.specs.declared.limits.Limits.{Limits}
 use Rattle.quant.specs.Limits.{AreLimits}
 use Rattle.parts.specs.Parts.{FileParts}
@@ -166,9 +168,9 @@ unit-sound parts u first unit rest ranges all passed left =
     record {
       sound = made-sound unit.name own ins outs unit.kind passed.range.kind limits;
       reads = rw read (numbers-there (streams_of parts) (references_of unit.kind) found);
-      takes = λ streams inside.
-          rw read (made-takes parts unit.name own outs unit.kind passed.range.kind found haves passed.column
-          streams inside);
+      takes = λ row inside.
+          made-takes parts unit.name own outs unit.kind passed.range.kind found haves passed.column row
+          (subst (λ (ns : List ℕ). AllInside row (flat_map (limits_at parts) ns)) read inside);
       counted = ap length (unit-gives parts first unit) ∙ length-range_with_len first (length (ports_of unit.kind))
           ∙ made.viewed;
       gives = λ p l. gives-sound parts u first p unit rest left l;

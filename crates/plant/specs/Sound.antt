@@ -30,7 +30,7 @@ AreInside parts streams = (s : ℕ) → s < length (streams_of parts) → AllIns
 pub record IsSoundUnit (parts : FileParts) (u : ℕ) (x : Unit) : Type 0 where
   pub sound : IsUnitSound x
   pub reads : AllByRecursion (λ s. s < length (streams_of parts)) (reads_of x)
-  pub takes : (streams : ℕ → List Interval) → AreInside parts streams → MayTake x (flat_map streams (reads_of x))
+  pub takes : (row : List Interval) → AllInside row (flat_map (limits_at parts) (reads_of x)) → MayTake x row
   pub counted : length (gives_of x) ≡ length (view_of x)
   pub gives : (p : ℕ) → p < length (gives_of x) → IsOutput parts u p (slice_index (gives_of x) p)
   pub limits : (p : ℕ) → p < length (gives_of x) →

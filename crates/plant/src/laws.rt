@@ -1,6 +1,6 @@
-ghost use Rattle.std.specs.Prelude.{◌≡◌, ◌<◌, ℕ, suc, Ok, length};
+ghost use Rattle.std.specs.Prelude.{◌≡◌, ◌<◌, ℕ, suc, Ok, [], length, slice_index_or};
 ghost use Rattle.quant.specs.Interval.{AllInside};
-ghost use Rattle.flowsheet.specs.Plant.{IsRanked};
+ghost use Rattle.flowsheet.specs.Plant.{IsRanked, unit_at};
 ghost use Rattle.flowsheet.specs.Limited.{AreBands, IsLimited};
 ghost use Rattle.parts.specs.Parts.{FileParts};
 ghost use Rattle.parts.specs.InRange.{AreInRange};
@@ -10,7 +10,7 @@ ghost use Rattle.plant.specs.Verdict.{IsVerdict};
 ghost use Rattle.plant.specs.PlantOf.{plant_of, carried_of};
 ghost use Rattle.plant.specs.Rows.{RowBands, opening_row, IsStep, HasStatesOf, HasFeedsOf, HasStreamsOf};
 ghost use Rattle.plant_streams.specs.Limits.{limits_at};
-ghost use Rattle.plant.specs.Sound.{ArePartsSound, IsPlant};
+ghost use Rattle.plant.specs.Sound.{ArePartsSound, IsOutput, IsPlant};
 
 /// In parts that pass the checks each unit meets what its steps ask for.
 pub fn checked_parts_are_sound()
@@ -37,6 +37,12 @@ pub fn built_plants_are_plants()
     ensures fed { (parts : FileParts) → IsPlant parts →
         (tick f : ℕ) → f < length parts.feeds →
         AllInside (given_bands parts tick f) (limits_at parts f) }
+{}
+
+/// The limits of a unit's output are those of the channels of its stream.
+pub fn outputs_share_limits_with_streams()
+    ensures { (parts : FileParts) (u p s : ℕ) → IsPlant parts → IsOutput parts u p s →
+        slice_index_or (unit_at (plant_of parts) u).output_limits p [] ≡ limits_at parts s }
 {}
 
 /// Steps that begin with the opening states, each from the bands that are given at its tick, make the interval run.

@@ -12,7 +12,7 @@ mod tick;
 
 pub use laws::{
     built_plants_are_plants, checked_parts_are_sound, direct_steps_make_the_run,
-    verdicts_are_unique, verdicts_exist,
+    outputs_share_limits_with_streams, verdicts_are_unique, verdicts_exist,
 };
 pub use plant::Plant;
 pub use plant_checks::{PlantFault, Unbuilt};

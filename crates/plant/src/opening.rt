@@ -21,8 +21,8 @@ impl Plant {
         Ok(made)
     }
 
-    /// The limits of a stream's channels.
-    fn stream_limits(&self, alloc: Global, stream: &Stream) -> Result<Bands, AllocError>
+    /// The limits of a stream's channels: the plant's for a feed, its unit's for an output.
+    pub fn stream_limits(&self, alloc: Global, stream: &Stream) -> Result<Bands, AllocError>
         ensures { IfOk result (λ made. made ≡ stream_limits self.now stream.now) }
     {
         let limits = source_limits(self.parts(), stream.source);
