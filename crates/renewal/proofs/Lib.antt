@@ -1,1 +1,6 @@
-pub mod Opening
+pub mod Givers
+pub mod Openings
+pub mod Renewed
+pub mod Shapes
+pub mod Spread
+pub mod Windows

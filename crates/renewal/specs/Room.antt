@@ -1,5 +1,5 @@
 -- The tubes that a renewal reads, and what it gives.
-use Rattle.std.specs.Prelude.{◌≡◌, ◌×◌, ℕ, ◌+◌, List, [], ◌∷◌, length, map, replicate}
+use Rattle.std.specs.Prelude.{◌≡◌, ℕ, ◌+◌, List, [], ◌∷◌, length, map, replicate}
 use Rattle.std.specs.List.{range_with_len}
 use Rattle.quant.specs.Interval.{Interval}
 use Rattle.flowsheet.specs.Plant.{PlantUnit, unit_at}

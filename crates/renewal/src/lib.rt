@@ -5,12 +5,12 @@ mod carried;
 mod laws;
 mod opening;
 mod plan;
-mod renew;
+mod renewing;
 mod rooms;
 
 pub use carried::Carried;
 pub use laws::windows_are_open;
 pub use opening::opening_tube;
 pub use plan::WindowPlan;
-pub use renew::renew;
+pub use renewing::renew;
 pub use rooms::{Inputs, Outputs};

@@ -19,11 +19,19 @@ impl<'p> Model for WindowPlan<'p> {
     ghost Value = { PlanOf };
 
     ghost view = { λ plan. record {
-        parts = plan.plant.now; first = plan.first; ticks = plan.ticks; carried = plan.carried; feeds = plan.feeds;
+      parts = plan.plant.now;
+      first = plan.first;
+      ticks = plan.ticks;
+      carried = plan.carried;
+      feeds = plan.feeds;
     } };
 
     ghost invariant = { λ plan. IsPlan (record {
-        parts = plan.plant.now; first = plan.first; ticks = plan.ticks; carried = plan.carried; feeds = plan.feeds;
+      parts = plan.plant.now;
+      first = plan.first;
+      ticks = plan.ticks;
+      carried = plan.carried;
+      feeds = plan.feeds;
     }) };
 }
 
@@ -46,7 +54,8 @@ impl<'p> WindowPlan<'p> {
     }
 
     pub fn plant(&self) -> &'p Plant
-        ensures { result.now ≡ self.now.parts }
+        ensures plant { result.now ≡ self.now.parts }
+        ensures plan { IsPlan self.now }
     {
         self.plant
     }
@@ -66,7 +75,8 @@ impl<'p> WindowPlan<'p> {
     }
 
     pub fn carried(&self) -> &Carried
-        ensures { result.now ≡ self.now.carried }
+        ensures carried { result.now ≡ self.now.carried }
+        ensures plan { IsPlan self.now }
     {
         &self.carried
     }

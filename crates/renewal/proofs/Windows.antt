@@ -27,9 +27,9 @@ use Rattle.renewal.specs.Plan.{PlanOf, IsPlan, window_of, carried_into, fed_by, 
 pub tube-at : (tube : Tube) (n : ℕ) → length tube ≡ n → tube_of (at tube) n ≡ tube
 tube-at tube n e = within-both _ _
     (within-each _ tube (length-tube_of (at tube) n ∙ sym e)
-      (λ t l. subst (λ row. AllInside row (at tube t)) (sym (at-tube_of (at tube) n t (subst (λ k. t < k) (length-tube_of (at tube) n) l))) (inside-itself (at tube t))))
+    (λ t l. subst (λ row. AllInside row (at tube t)) (sym (at-tube_of (at tube) n t (subst (λ k. t < k) (length-tube_of (at tube) n) l))) (inside-itself (at tube t))))
     (within-each tube _ (e ∙ sym (length-tube_of (at tube) n))
-      (λ t l. subst (AllInside (at tube t)) (sym (at-tube_of (at tube) n t (subst (λ k. t < k) e l))) (inside-itself (at tube t))))
+    (λ t l. subst (AllInside (at tube t)) (sym (at-tube_of (at tube) n t (subst (λ k. t < k) e l))) (inside-itself (at tube t))))
 
 -- the same bands at each tick
 pub replicated : (bands : List Interval) (n t : ℕ) → t < n → at (replicate n bands) t ≡ bands
@@ -85,17 +85,17 @@ module _ (plan : PlanOf) (h : IsPlan plan) where
   holds-from s (sheet.feed f) l o = within-each _ _
       (length-tube_of _ plan.ticks ∙ sym (h.ticked f (feed-there s f l o)))
       (λ t m. (let n : t < plan.ticks = subst (λ k. t < k) (length-tube_of _ plan.ticks) m in
-        subst (λ row. AllInside row (at (fed_by plan f) t))
-        (sym (run-at s t n ∙ run-fed (on_bands (plant_of plan.parts)) (plant_of plan.parts) (carried_into plan) (λ q g. at (fed_by plan g) q) t s f o))
-        (inside-itself (at (fed_by plan f) t))))
+      subst (λ row. AllInside row (at (fed_by plan f) t))
+      (sym (run-at s t n ∙ run-fed (on_bands (plant_of plan.parts)) (plant_of plan.parts) (carried_into plan) (λ q g. at (fed_by plan g) q) t s f o))
+      (inside-itself (at (fed_by plan f) t))))
   holds-from s (sheet.port u p) l o = within-each _ _
       (length-tube_of _ plan.ticks ∙ sym (length-replicate plan.ticks _))
       (λ t m. (let n : t < plan.ticks = subst (λ k. t < k) (length-tube_of _ plan.ticks) m in
-        let limits = slice_index_or (sheet.unit_at (plant_of plan.parts) u).output_limits p [] in
-        subst (AllInside (at (run_tube (window_of plan) s) t)) (sym (replicated limits plan.ticks t n))
-        (subst (λ row. AllInside row limits) (sym (run-at s t n))
-        (stream-limited (plant_of plan.parts) (carried_into plan) (λ q g. at (fed_by plan g) q) plan.ticks
-          (parts-ranked plan.parts h.plant) bands limited t s u p n l o))))
+      let limits = slice_index_or (sheet.unit_at (plant_of plan.parts) u).output_limits p [] in
+      subst (AllInside (at (run_tube (window_of plan) s) t)) (sym (replicated limits plan.ticks t n))
+      (subst (λ row. AllInside row limits) (sym (run-at s t n))
+      (stream-limited (plant_of plan.parts) (carried_into plan) (λ q g. at (fed_by plan g) q) plan.ticks
+      (parts-ranked plan.parts h.plant) bands limited t s u p n l o))))
 
   pub is-open : IsOpen (window_of plan)
   is-open = record {
