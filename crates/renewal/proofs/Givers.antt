@@ -1,10 +1,9 @@
 -- The unit that is renewed: what it takes, steps to and shows.
-use Rattle.std.proofs.Common.{◌≡◌, ◌∙◌, ℕ, zero, suc, ◌+◌, ◌<◌, ◌≤◌, List, [], length, map, get_or, refl, sym, subst, ap, arith}
+use Rattle.std.proofs.Common.{◌≡◌, ◌∙◌, ℕ, zero, suc, ◌<◌, List, [], length, get_or, refl, sym, subst, ap}
 use Rattle.std.specs.Prelude.{slice_index_or}
 use Rattle.std.specs.List.{AllByRecursion}
-use Rattle.std.proofs.lemmas.List.{length-map}
+use Rattle.std.proofs.lemmas.List.{length-map, get_or_default}
 use Rattle.quant.specs.Interval.{Interval, AllInside}
-use Rattle.quant.specs.Ports.{outputs}
 use Rattle.quant.proofs.Calls.{inside-length}
 use Rattle.flowsheet.specs.Plant.{PlantUnit}
 use Rattle.flowsheet.specs.Reading.{on_bands, shown, stepped}
@@ -17,7 +16,7 @@ use Rattle.plant_units.specs.Steps.{steps}
 use Rattle.plant_units.proofs.AllKinds.{steps-inside, shown-inside, ports-alike}
 use Rattle.plant.specs.PlantOf.{plant_of}
 use Rattle.plant.specs.Sound.{IsSoundUnit}
-use Rattle.plant.proofs.Lookups.{sound-at, unit-is}
+use Rattle.plant.proofs.Lookups.{item, sound-at, unit-is}
 use Rattle.plant.proofs.PlantLaws.{plant-sound}
 use Rattle.plant.proofs.Showing.{shown_rows, row-is}
 use Rattle.renewal.specs.Plan.{PlanOf, IsPlan, carried_into}
@@ -41,6 +40,12 @@ is-giver plan u x units h l e k =
       sound = subst (IsSoundUnit plan.parts u) at (sound-at plan.parts u x (plant-sound plan.parts h.plant).units l);
       is = unit-is plan.parts u x l ∙ ap sheet_unit at;
     }
+
+pub some-giver : (plan : PlanOf) (u : ℕ) → IsPlan plan → u < length (units_of plan.parts) → (x : Unit) × IsGiver plan u x
+some-giver plan u h l =
+    let y : Unit = item (units_of plan.parts) u l in
+    let x : Unit = get_or (units_of plan.parts) u y in
+    (x, is-giver plan u x (units_of plan.parts) h l (get_or_default (units_of plan.parts) u y x l) refl)
 
 module _ (plan : PlanOf) (u : ℕ) (x : Unit) (g : IsGiver plan u x) where
   -- what the definitions' unit has

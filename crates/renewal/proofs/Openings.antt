@@ -6,7 +6,7 @@ use Rattle.std.proofs.lemmas.List.{length-replicate}
 use Rattle.quant.specs.Interval.{Interval, AllInside}
 use Rattle.flowsheet.proofs.Bands.{inside-itself, inside-wider}
 use Rattle.relaxation.specs.Tube.{Tube, at}
-use Rattle.relaxation.specs.Window.{Window, row_of}
+use Rattle.relaxation.specs.Window.{row_of}
 use Rattle.relaxation.proofs.Ticks.{within-at, within-length}
 use Rattle.plant_streams.specs.declared.streams.Stream.{Stream}
 use Rattle.plant_streams.specs.declared.streams.StreamSource.{StreamSource}

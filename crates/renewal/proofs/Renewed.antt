@@ -1,18 +1,17 @@
 -- A renewal that is made tick by tick.
-use Rattle.std.proofs.Common.{◌≡◌, ◌≢◌, ◌∙◌, ℕ, zero, suc, ◌+◌, ◌<◌, ◌≤◌, List, [], ◌∷◌, length, map, replicate, refl, sym, subst, ap, arith, inl, inr}
-use Rattle.std.proofs.Common.{get_or-set_other, length-set}
+use Rattle.std.proofs.Common.{◌≡◌, ◌∙◌, ℕ, suc, ◌+◌, ◌<◌, ◌≤◌, List, [], length, map, sym, subst, ap, arith, inl, inr}
+use Rattle.std.proofs.Common.{get_or-set_other}
 use Rattle.std.specs.Prelude.{slice_index_or, slice_set}
-use Rattle.std.specs.List.{range_with_len}
 use Rattle.std.proofs.lemmas.Bool.{cases_eq}
 use Rattle.std.proofs.lemmas.Grind.{get_or-set_at}
-use Rattle.std.proofs.lemmas.List.{length-map, length-replicate, ext_get_or}
+use Rattle.std.proofs.lemmas.List.{ext_get_or}
 use Rattle.std.proofs.lemmas.List.FromFn.{get_or-map-range_with_len, length-map-range_with_len}
 use Rattle.quant.specs.Interval.{Interval, AllInside}
 use Rattle.quant.specs.Ports.{outputs}
 use Rattle.quant.proofs.Calls.{inside-length}
 use Rattle.flowsheet.specs.Reading.{on_bands, shown, stepped}
 use Rattle.flowsheet.specs.Renewal.{renewed, renewed_states}
-use Rattle.relaxation.specs.Tube.{Tube, at, tube_of}
+use Rattle.relaxation.specs.Tube.{Tube, at}
 use Rattle.relaxation.specs.Window.{row_of, renewal}
 use Rattle.plant_units.specs.declared.units.Unit.{Unit}
 use Rattle.plant_units.specs.Units.{state_limits_of}
@@ -21,7 +20,7 @@ use Rattle.plant_units.proofs.AllKinds.{steps-inside, ports-alike}
 use Rattle.plant.specs.PlantOf.{plant_of}
 use Rattle.plant.proofs.Showing.{shown_rows, views-rows}
 use Rattle.renewal.specs.Plan.{PlanOf, carried_into, window_of}
-use Rattle.renewal.specs.Room.{planned, AreOpened, RenewalOf, HasRoomFor, renewal_of}
+use Rattle.renewal.specs.Room.{planned, RenewalOf, HasRoomFor, renewal_of}
 use Rattle.renewal.specs.Ticks.{spread_at, AreFilled, IsRenewed, port_in}
 use Rattle.renewal.proofs.Givers.{IsGiver, states-limited, steps-are, state-limits-are, output-limits-are, views-are, shown-are, shown-wide, shown-counted}
 use Rattle.renewal.proofs.Shapes.{shape-ticks, shape-wide, shapes-at, shapes-counted, same-tube}
@@ -74,17 +73,19 @@ module _ (plan : PlanOf) (u : ℕ) (x : Unit) (g : IsGiver plan u x) (tubes : Li
       (states-limited plan u x g (row_of tubes) n)
 
   -- the bands that are carried in
+  pub carried-wide : (made : RenewalOf) → HasRoomFor plan u made → length (carried_into plan u) ≡ length (at made.states 0)
+  carried-wide made room =
+      inside-length (carried_into plan u) (state_limits_of x) (states-limited plan u x g (row_of tubes) 0)
+      ∙ sym (states-wide plan u x g made 0 room (omega arith))
+
   pub renewed-none : (made : RenewalOf) → HasRoomFor plan u made →
       IsRenewed plan u tubes 0 (record { ports = made.ports; states = slice_set made.states 0 (carried_into plan u) })
   renewed-none made room =
       let carried : List Interval = carried_into plan u in
-      let wide : length carried ≡ length (at made.states 0) =
-      inside-length carried (state_limits_of x) (states-limited plan u x g (row_of tubes) 0)
-      ∙ sym (states-wide plan u x g made 0 room (omega arith)) in
       record {
         shape = record {
           ports_shape = room.ports_shape;
-          states_shape = shape-set made.states 0 carried wide ∙ room.states_shape;
+          states_shape = shape-set made.states 0 carried (carried-wide made room) ∙ room.states_shape;
         };
         shown = λ p t l m. absurd (omega arith);
         stepped = λ t m.

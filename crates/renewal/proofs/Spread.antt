@@ -1,6 +1,6 @@
 -- Rows that are gathered from tubes, and spread over them, one tube after another.
-use Rattle.std.proofs.Common.{◌≡◌, ◌∙◌, ℕ, zero, suc, ◌+◌, ◌-◌, ◌<◌, ◌≤◌, List, [], ◌∷◌, ◌++◌, length, take, drop, map, get_or, refl, sym, subst, ap, arith}
-use Rattle.std.specs.Prelude.{flat_map, slice_index_or, slice_set}
+use Rattle.std.proofs.Common.{◌≡◌, ◌∙◌, ℕ, zero, suc, ◌+◌, ◌<◌, ◌≤◌, List, [], ◌∷◌, ◌++◌, length, take, drop, map, get_or, refl, sym, subst, ap, arith}
+use Rattle.std.specs.Prelude.{slice_index_or, slice_set}
 use Rattle.std.specs.List.{AllByRecursion}
 use Rattle.std.proofs.lemmas.List.{drop_more, append_assoc, length-append, length-take-le, length-drop}
 use Rattle.std.proofs.lemmas.Slice.{take-put_mid}
@@ -59,7 +59,8 @@ fit-each t [] [] e h k = tt
 fit-each t [] (tube ∷ tubes) e h k = absurd (omega arith)
 fit-each t (row ∷ rows) [] e h k = absurd (omega arith)
 fit-each t (row ∷ rows) (tube ∷ tubes) e h k = (
-  h 0 (omega arith), k 0 (omega arith),
+  h 0 (omega arith),
+  k 0 (omega arith),
   fit-each t rows tubes (omega arith) (λ p l. h (suc p) (omega arith)) (λ p l. k (suc p) (omega arith)),
 )
 
@@ -76,7 +77,8 @@ fit-filled t [] [] f = tt
 fit-filled t [] (tube ∷ tubes) f = absurd f
 fit-filled t (row ∷ rows) [] f = absurd f
 fit-filled t (row ∷ rows) (tube ∷ tubes) f = (
-  f.0, omega (arith, length-append row (outputs rows), f.1),
+  f.0,
+  omega (arith, length-append row (outputs rows), f.1),
   subst (λ (bands : List Interval). AreFilled t bands tubes) (sym (first-dropped row (outputs rows) _ f.1))
       (fit-filled t rows tubes f.2),
 )

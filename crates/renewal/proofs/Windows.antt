@@ -1,7 +1,7 @@
 -- The window of a plan can be relaxed.
-use Rattle.std.proofs.Common.{◌≡◌, ℕ, zero, suc, ◌<◌, ◌≤◌, List, [], length, slice_index_or, replicate, refl, sym, subst, ap, ◌∙◌, arith}
+use Rattle.std.proofs.Common.{◌≡◌, ℕ, zero, suc, ◌<◌, List, [], length, slice_index_or, replicate, refl, sym, subst, ap, ◌∙◌, arith}
 use Rattle.std.proofs.lemmas.List.{length-replicate}
-use Rattle.quant.specs.Interval.{Interval, AllBands, AllInside}
+use Rattle.quant.specs.Interval.{Interval, AllInside}
 use Rattle.flowsheet.specs.Plant as sheet
 use Rattle.flowsheet.specs.Reading.{on_bands}
 use Rattle.flowsheet.specs.Run.{run_streams}
@@ -10,15 +10,13 @@ use Rattle.flowsheet.proofs.Bands.{inside-itself}
 use Rattle.flowsheet.proofs.Stages.{run-fed}
 use Rattle.flowsheet.proofs.Limits.{stream-limited}
 use Rattle.relaxation.specs.Tube.{Tube, IsWithin, at, tube_of}
-use Rattle.relaxation.specs.Window.{Window, IsOpen, run_tube}
-use Rattle.relaxation.proofs.Meets.{within-both, within-itself}
+use Rattle.relaxation.specs.Window.{IsOpen, run_tube}
+use Rattle.relaxation.proofs.Meets.{within-both}
 use Rattle.relaxation.proofs.Ticks.{at-tube_of, length-tube_of, within-each}
-use Rattle.parts.specs.Parts.{FileParts}
 use Rattle.plant_streams.specs.declared.streams.StreamSource.TheVariants as source
 use Rattle.plant_streams.specs.Streams.{streams_of}
 use Rattle.plant_units.specs.Units.{units_of}
 use Rattle.plant.specs.PlantOf.{plant_of}
-use Rattle.plant.specs.Sound.{IsPlant}
 use Rattle.plant.proofs.Lookups.{from, from_feed, from_port, origin-is, units-counted, streams-counted}
 use Rattle.plant.proofs.PlantLaws.{plant-sound, parts-ranked, parts-limited}
 use Rattle.renewal.specs.Plan.{PlanOf, IsPlan, window_of, carried_into, fed_by, opening_from}

@@ -1,5 +1,5 @@
 -- A window plan: a built plant, some of its ticks, the bands carried into each unit's states, and the tubes of its feeds.
-use Rattle.std.specs.Prelude.{◌≡◌, ℕ, ◌+◌, ◌<◌, ◌≤◌, List, [], length, map, replicate, slice_index_or}
+use Rattle.std.specs.Prelude.{◌≡◌, ℕ, ◌+◌, ◌<◌, ◌≤◌, List, [], length, replicate, slice_index_or}
 use Rattle.quant.specs.Interval.{Interval, AllBands, AllInside}
 use Rattle.flowsheet.specs.Plant.{Origin, feed, port, unit_at, origin_of}
 use Rattle.relaxation.specs.Tube.{Tube, at}

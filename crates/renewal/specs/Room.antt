@@ -1,7 +1,6 @@
 -- The tubes that a renewal reads, and what it gives.
 use Rattle.std.specs.Prelude.{◌≡◌, ℕ, ◌+◌, List, [], ◌∷◌, length, map, replicate}
 use Rattle.std.specs.List.{range_with_len}
-use Rattle.quant.specs.Interval.{Interval}
 use Rattle.flowsheet.specs.Plant.{PlantUnit, unit_at}
 use Rattle.flowsheet.specs.Reading.{on_bands}
 use Rattle.flowsheet.specs.Renewal.{renewed_states}

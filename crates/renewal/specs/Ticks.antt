@@ -1,6 +1,6 @@
 -- Words of the proofs: a reader of the contracts needs none of them.
 -- A renewal that is made tick by tick.
-use Rattle.std.specs.Prelude.{◌≡◌, ℕ, ◌+◌, ◌<◌, ◌≤◌, List, [], ◌∷◌, length, take, drop, slice_index_or, slice_set}
+use Rattle.std.specs.Prelude.{◌≡◌, ℕ, ◌<◌, ◌≤◌, List, [], ◌∷◌, length, take, drop, slice_index_or, slice_set}
 use Rattle.quant.specs.Interval.{Interval}
 use Rattle.flowsheet.specs.Reading.{on_bands}
 use Rattle.flowsheet.specs.Renewal.{renewed, renewed_states}

@@ -1,12 +1,10 @@
 -- The stream that stands at the place opens with the tube of its feed, or with the limits of its channels.
-use Rattle.std.proofs.Common.{◌≡◌, ◌<◌, ◌∙◌, ℕ, List, [], length, replicate, get_or, ap, sym, subst, arith}
+use Rattle.std.proofs.Common.{◌≡◌, ◌<◌, ◌∙◌, ℕ, [], length, replicate, ap, sym, subst, arith}
 use Rattle.std.specs.Prelude.{IfOk}
 use Rattle.std.proofs.lemmas.List.{get_or_default}
-use Rattle.quant.specs.Interval.{Interval}
 use Rattle.relaxation.specs.Tube.{Tube}
-use Rattle.plant_streams.specs.declared.streams.StreamSource.TheVariants as source
 use Rattle.plant_streams.specs.Streams.{streams_of}
-use Rattle.plant_streams.specs.Limits.{source_at, stream_limits, limits_at}
+use Rattle.plant_streams.specs.Limits.{stream_limits}
 use Rattle.parts.specs.Parts.{FileParts}
 use Rattle.plant.proofs.Lookups.{item-there}
 use Rattle.renewal.specs.Plan.{fed_by}

@@ -1,5 +1,5 @@
 -- The unit takes what its tubes have at the tick, and one tick more is renewed.
-use Rattle.std.proofs.Common.{◌≡◌, ◌≤◌, ◌<◌, ◌+◌, ◌∙◌, ℕ, List, length, take, ap, sym, subst, arith}
+use Rattle.std.proofs.Common.{◌≡◌, ◌+◌, ◌∙◌, ℕ, List, length, take, ap, sym, subst, arith}
 use Rattle.std.specs.Prelude.{slice_set}
 use Rattle.quant.specs.Interval.{Interval, AllInside}
 use Rattle.quant.proofs.Calls.{inside-length}
@@ -9,10 +9,9 @@ use Rattle.plant_units.specs.declared.units.Unit.{Unit}
 use Rattle.plant_units.specs.Units.{units_of, state_limits_of, MayTake}
 use Rattle.plant_units.specs.Steps.{views, steps}
 use Rattle.plant_units.proofs.AllKinds.{takes-few, states-few}
-use Rattle.renewal.specs.Plan.{PlanOf}
 use Rattle.renewal.specs.Room.{RenewalOf}
 use Rattle.renewal.specs.Ticks.{spread_at, IsRenewed}
-use Rattle.renewal.proofs.Givers.{IsGiver, is-giver, row-taken, tubes-ticked}
+use Rattle.renewal.proofs.Givers.{is-giver, row-taken, tubes-ticked}
 use Rattle.renewal.proofs.Renewed.{states-inside, states-counted, states-wide, shown-filled, renewed-more}
 use Rattle.renewal.proofs.renewing.renew_tick.Goals as goal
 
@@ -113,8 +112,12 @@ step-requires-clause-tick c =
     let x = c.index-units-unit.result in
     let g = is-giver plan c.args.unit x _ c.plant.ensures.plan c.requires.unit c.index-units-unit.is
     (c.units.ensures ∙ ap units_of c.plant.ensures.plant) in
-    omega (arith, ap (λ (made : RenewalOf). length made.states) c.show.ensures,
-    states-counted plan c.args.unit x g c.args.outputs.now c.requires.renewed.shape, c.requires.tick)
+    omega (
+      arith,
+      ap (λ (made : RenewalOf). length made.states) c.show.ensures,
+      states-counted plan c.args.unit x g c.args.outputs.now c.requires.renewed.shape,
+      c.requires.tick,
+    )
 
 pub step-requires-clause-few : goal.step-requires-clause-few
 step-requires-clause-few c =
@@ -122,8 +125,12 @@ step-requires-clause-few c =
     let x = c.index-units-unit.result in
     let g = is-giver plan c.args.unit x _ c.plant.ensures.plan c.requires.unit c.index-units-unit.is
     (c.units.ensures ∙ ap units_of c.plant.ensures.plant) in
-    omega (arith, ap (λ (made : RenewalOf). length made.states) c.show.ensures,
-    states-counted plan c.args.unit x g c.args.outputs.now c.requires.renewed.shape, c.plant.ensures.plan.few)
+    omega (
+      arith,
+      ap (λ (made : RenewalOf). length made.states) c.show.ensures,
+      states-counted plan c.args.unit x g c.args.outputs.now c.requires.renewed.shape,
+      c.plant.ensures.plan.few,
+    )
 
 pub step-requires-clause-next : goal.step-requires-clause-next
 step-requires-clause-next c =

@@ -1,9 +1,9 @@
 -- There is room for as many states as the unit has.
-use Rattle.std.proofs.Common.{◌≡◌, ◌≤◌, ◌+◌, ◌∙◌, ℕ, List, length, take, ap, sym, subst, arith}
+use Rattle.std.proofs.Common.{◌≡◌, ◌+◌, ◌∙◌, ℕ, List, length, ap, sym, arith}
 use Rattle.std.proofs.lemmas.List.{length-take-le}
 use Rattle.quant.specs.Interval.{Interval, AllInside}
 use Rattle.quant.proofs.Calls.{inside-length}
-use Rattle.relaxation.specs.Tube.{Tube, at}
+use Rattle.relaxation.specs.Tube.{at}
 use Rattle.plant_units.specs.declared.units.Unit.{Unit}
 use Rattle.plant_units.specs.Units.{state_limits_of}
 use Rattle.plant_units.proofs.AllKinds.{steps-inside}
