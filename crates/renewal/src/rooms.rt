@@ -6,6 +6,7 @@ ghost use Rattle.relaxation.specs.Tube.{at};
 ghost use Rattle.relaxation.specs.Window.{Window};
 ghost use Rattle.plant_units.specs.Units.{units_of, state_limits_of, is_instant, IsUnitSound, MayTake};
 ghost use Rattle.plant_units.specs.Steps.{width_of, views, steps};
+ghost use Rattle.tubes.specs.Shape.{HasShapeOf};
 ghost use Rattle.renewal.specs.Plan.{window_of};
 ghost use Rattle.renewal.specs.Room.{planned, HasRoomFor};
 ghost use Rattle.renewal.specs.Ticks.{spread_at, AreFilled};
@@ -81,6 +82,29 @@ impl Inputs {
         ensures { result.now ≡ self.now }
     {
         self.tubes.as_slice()
+    }
+}
+
+impl Inputs {
+    ghost use Rattle.std.specs.Borrow.{sem};
+    ghost use Rattle.renewal.specs.Lending.{LendsTube};
+
+    /// The tube of an input port, to write in place.
+    pub fn port(&mut self, port: u32) -> &mut Tube
+        requires { port < length self.old }
+        ensures* lends { sem 𝓛 (LendsTube self.entry port result) }
+        ensures value { result.now ≡ slice_index_or self.old port [] }
+    {
+        &mut self.tubes[port as usize]
+    }
+
+    /// Takes the bands of a tube of its shape for an input port.
+    pub fn read(&mut self, port: u32, tube: &Tube)
+        requires port { port < length self.old }
+        requires shape { HasShapeOf (slice_index_or self.old port []) tube.now }
+        ensures { self.new ≡ slice_set self.old port tube.now }
+    {
+        self.tubes[port as usize].copy_from(tube);
     }
 }
 
