@@ -1,11 +1,12 @@
 -- The tubes that streams open with lie in the limits of their channels, and so do the tubes inside them.
-use Rattle.std.proofs.Common.{◌≡◌, ◌∙◌, ℕ, ◌<◌, List, [], ◌∷◌, length, replicate, get_or, sym, subst, ap}
-use Rattle.std.specs.Prelude.{flat_map}
+use Rattle.std.proofs.Common.{◌≡◌, ◌∙◌, ℕ, zero, suc, ◌<◌, List, [], ◌∷◌, length, map, replicate, get_or, sym, subst, ap, arith}
+use Rattle.std.specs.Prelude.{flat_map, slice_index, slice_set}
 use Rattle.std.specs.List.{AllByRecursion}
 use Rattle.std.proofs.lemmas.List.{length-replicate}
 use Rattle.quant.specs.Interval.{Interval, AllInside}
 use Rattle.flowsheet.proofs.Bands.{inside-itself, inside-wider}
-use Rattle.relaxation.specs.Tube.{Tube, at}
+use Rattle.relaxation.specs.Tube.{Tube, IsWithin, at}
+use Rattle.relaxation.proofs.Meets.{within-itself}
 use Rattle.relaxation.specs.Window.{row_of}
 use Rattle.relaxation.proofs.Ticks.{within-at, within-length}
 use Rattle.plant_streams.specs.declared.streams.Stream.{Stream}
@@ -94,3 +95,16 @@ module _ (plan : PlanOf) (h : IsPlan plan) where
       (inside-wider (at tube t) (at ((window_of plan).opening s) t) (limits_at plan.parts s) (within-at tube _ t o.0)
       (opening-limited s t there.0 m))
       (opened-inside t streams tubes m o.1 there.1)
+
+-- the tubes that streams open with lie inside themselves, and tubes inside them may take their places
+pub opening-opened : (plan : PlanOf) (streams : List ℕ) → AreOpened plan streams (map (window_of plan).opening streams)
+opening-opened plan [] = tt
+opening-opened plan (s ∷ streams) = (within-itself ((window_of plan).opening s), opening-opened plan streams)
+
+pub set-opened : (plan : PlanOf) (streams : List ℕ) (tubes : List Tube) (p : ℕ) (tube : Tube) → AreOpened plan streams tubes →
+    p < length streams → IsWithin tube ((window_of plan).opening (slice_index streams p)) →
+    AreOpened plan streams (slice_set tubes p tube)
+set-opened plan [] tubes p tube o l h = absurd (omega arith)
+set-opened plan (s ∷ streams) [] p tube o l h = absurd o
+set-opened plan (s ∷ streams) (other ∷ tubes) zero tube o l h = (h, o.1)
+set-opened plan (s ∷ streams) (other ∷ tubes) (suc p) tube o l h = (o.0, set-opened plan streams tubes p tube o.1 (omega arith) h)

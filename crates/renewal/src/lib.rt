@@ -9,7 +9,7 @@ mod renewing;
 mod rooms;
 
 pub use carried::Carried;
-pub use laws::windows_are_open;
+pub use laws::{tubes_stay_opened, windows_are_open};
 pub use opening::opening_tube;
 pub use plan::WindowPlan;
 pub use renewing::renew;

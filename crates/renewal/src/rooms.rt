@@ -123,6 +123,13 @@ impl Outputs {
         Ok(Outputs { tubes, states })
     }
 
+    /// The tubes of its outputs.
+    pub fn as_slice(&self) -> &[Tube]
+        ensures { result.now ≡ self.now.ports }
+    {
+        self.tubes.as_slice()
+    }
+
     /// The tube of an output.
     pub fn port(&self, port: u32) -> &Tube
         requires { port < length self.now.ports }
