@@ -32,14 +32,14 @@ use Rattle.plant.proofs.Lookups.{sound-at, unit-is, From, from_feed, from_port, 
 use Rattle.plant.proofs.Stepping.{states-inside}
 
 -- what a unit shows, an output a row
-abbrev shown_rows : Unit → List Interval → List Interval → List (List Interval)
+abbrev pub shown_rows : Unit → List Interval → List Interval → List (List Interval)
 shown_rows x state ins = map (λ terms. intervals Floor terms state (if is_instant x then ins else [])) (view_of x)
 
 outputs-map : {A B : Type 0} (f : A → B) (rows : List (List A)) → map f (outputs rows) ≡ outputs (map (map f) rows)
 outputs-map f [] = refl
 outputs-map f (row ∷ rows) = map-append f row (outputs rows) ∙ ap (λ rest. map f row ++ rest) (outputs-map f rows)
 
-views-rows : (x : Unit) (state ins : List Interval) → AllInside state (state_limits_of x) →
+pub views-rows : (x : Unit) (state ins : List Interval) → AllInside state (state_limits_of x) →
     views x state ins ≡ outputs (shown_rows x state ins)
 unfolding views
 views-rows x state ins inside =
@@ -48,7 +48,7 @@ views-rows x state ins inside =
     ∙ outputs-map (interval Floor state read) (view_of x)
 
 -- each row is what the definitions show
-row-is : (x : Unit) (state ins : List Interval) (p : ℕ) → slice_index_or (shown_rows x state ins) p [] ≡ shown
+pub row-is : (x : Unit) (state ins : List Interval) (p : ℕ) → slice_index_or (shown_rows x state ins) p [] ≡ shown
     (interval Floor) (sheet_unit x) p state ins
 unfolding sheet_unit
 row-is x state ins p =

@@ -1,6 +1,6 @@
 -- What all kinds of units have in common, seen one kind after another.
 use Rattle.std.proofs.Common.{◌≡◌, ℕ, ◌-◌, pos, List, subst, ◌+◌, refl, zero, suc, [], arith, ◌∷◌, sym, ◌*◌, length}
-use Rattle.std.proofs.Common.{◌≤◌, map, ap, ◌∙◌, ◌<◌, true, false, true≢false}
+use Rattle.std.proofs.Common.{◌≤◌, map, ap, ◌∙◌, ◌<◌, true, false}
 use Rattle.std.specs.Prelude.{slice_index_or, if◌then◌else◌}
 use Rattle.std.proofs.lemmas.List.{length-map, length-append}
 use Rattle.std.proofs.lemmas.List.FromFn.{length-range_with_len}
@@ -24,7 +24,7 @@ use Rattle.flowsheet.specs.Reading.{shown}
 use Rattle.flowsheet.specs.Limited.{KeepsLimits}
 use Rattle.plant_units.specs.declared.units.Unit.{Unit}
 use Rattle.plant_units.specs.declared.units.Unit.TheVariants as unit
-use Rattle.plant_units.specs.Units.{sheet_unit, state_limits_of, output_limits_of, IsUnitSound, is_instant, MayTake}
+use Rattle.plant_units.specs.Units.{sheet_unit, view_of, state_limits_of, output_limits_of, IsUnitSound, is_instant, MayTake}
 use Rattle.plant_units.specs.Steps.{steps, views}
 
 -- what a column reads from its states lies in the limits of its place
@@ -205,17 +205,28 @@ steps-none x [] ins sound inside h =
     ))
 steps-none x (A ∷ state) ins sound inside h = absurd (omega (arith, h))
 
--- a unit that holds nothing back has few inputs too
-pub instant-few : (x : Unit) (ins : List Interval) → is_instant x ≡ true → IsUnitSound x → MayTake x ins →
-    length ins ≤ 24
-instant-few (unit.Tank name tank inputs outputs opening) ins i sound takes = absurd (true≢false (sym i))
-instant-few (unit.Reactor name reactor inputs outputs opening) ins i sound takes = absurd (true≢false (sym i))
-instant-few (unit.Column name column inputs outputs opening) ins i sound takes = absurd (true≢false (sym i))
-instant-few (unit.Controller name controller inputs outputs opening) ins i sound takes = absurd (true≢false (sym i))
-instant-few (unit.Mixer name mixer inputs outputs opening) ins i sound takes =
-    mixer-few mixer.inputs ins sound.few takes
-instant-few (unit.Splitter name splitter inputs outputs opening) ins i sound takes =
+-- no unit has many inputs
+pub takes-few : (x : Unit) (ins : List Interval) → IsUnitSound x → MayTake x ins → length ins ≤ 24
+takes-few (unit.Tank name tank inputs outputs opening) ins sound takes =
+    omega (arith, inside-length ins tanks.input_limits takes)
+takes-few (unit.Reactor name reactor inputs outputs opening) ins sound takes =
+    omega (arith, inside-length ins reactors.input_limits takes)
+takes-few (unit.Column name column inputs outputs opening) ins sound takes =
+    omega (arith, inside-length ins columns.input_limits takes.held)
+takes-few (unit.Controller name controller inputs outputs opening) ins sound takes =
+    omega (arith, inside-length ins controllers.input_limits takes)
+takes-few (unit.Mixer name mixer inputs outputs opening) ins sound takes = mixer-few mixer.inputs ins sound.few takes
+takes-few (unit.Splitter name splitter inputs outputs opening) ins sound takes =
     omega (arith, inside-length ins splitters.input_limits takes)
+
+-- it has as many outputs as limits for them
+pub ports-alike : (x : Unit) → length (view_of x) ≡ length (output_limits_of x)
+ports-alike (unit.Tank name tank inputs outputs opening) = refl
+ports-alike (unit.Reactor name reactor inputs outputs opening) = refl
+ports-alike (unit.Column name column inputs outputs opening) = refl
+ports-alike (unit.Controller name controller inputs outputs opening) = refl
+ports-alike (unit.Mixer name mixer inputs outputs opening) = refl
+ports-alike (unit.Splitter name splitter inputs outputs opening) = refl
 
 -- it keeps its limits
 pub unit-keeps : (x : Unit) → IsUnitSound x → KeepsLimits Floor (sheet_unit x)

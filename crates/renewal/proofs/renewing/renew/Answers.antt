@@ -1,0 +1,37 @@
+-- The bands that are carried in are renewed, and where all ticks are, the renewal is whole.
+use Rattle.std.proofs.Common.{◌≡◌, ◌∙◌, ℕ, [], List, length, ap, sym, subst, arith}
+use Rattle.std.specs.Prelude.{slice_index_or, slice_set}
+use Rattle.quant.specs.Interval.{Interval}
+use Rattle.renewal.specs.Room.{RenewalOf}
+use Rattle.renewal.specs.Ticks.{IsRenewed}
+use Rattle.renewal.proofs.Givers.{some-giver}
+use Rattle.renewal.proofs.Renewed.{carried-wide, renewed-none, renewed-whole}
+use Rattle.renewal.proofs.renewing.renew.Goals as goal
+
+pub carry-requires-clause-counted : goal.carry-requires-clause-counted
+carry-requires-clause-counted c =
+    let plan = c.args.plan.now in
+    let f = some-giver plan c.args.unit c.carried.ensures.plan c.requires.unit in
+    ap length (c.unit.ensures ∙ ap (λ (rows : List (List Interval)). slice_index_or rows c.args.unit []) c.carried.ensures.carried)
+    ∙ carried-wide plan c.args.unit f.0 f.1 c.args.inputs.now c.args.outputs.now c.requires.room
+
+-- the room with these states at the first tick
+abbrev carried : RenewalOf → List Interval → RenewalOf
+carried made bands = record { ports = made.ports; states = slice_set made.states 0 bands }
+
+pub loop-tick-init : goal.loop-tick-init
+loop-tick-init c =
+    let plan = c.args.plan.now in
+    let f = some-giver plan c.args.unit c.carried.ensures.plan c.requires.unit in
+    subst (IsRenewed plan c.args.unit c.args.inputs.now 0)
+    (sym (c.carry.ensures ∙ ap (carried c.args.outputs.now)
+    (c.unit.ensures ∙ ap (λ (rows : List (List Interval)). slice_index_or rows c.args.unit []) c.carried.ensures.carried)))
+    (renewed-none plan c.args.unit f.0 f.1 c.args.inputs.now c.args.outputs.now c.requires.room)
+
+pub returns : goal.returns
+returns c =
+    let plan = c.args.plan.now in
+    let f = some-giver plan c.args.unit c.carried.ensures.plan c.requires.unit in
+    let all : c.loop-tick.tick ≡ plan.ticks = omega (arith, c.ticks-tick-end.ensures) in
+    renewed-whole plan c.args.unit f.0 f.1 c.args.inputs.now c.loop-tick.outputs
+    (subst (λ (n : ℕ). IsRenewed plan c.args.unit c.args.inputs.now n c.loop-tick.outputs) all c.loop-tick.invariant)

@@ -1,0 +1,4 @@
+pub mod Lending
+pub mod Plan
+pub mod Room
+pub mod Ticks

@@ -1,0 +1,16 @@
+//! One unit's renewal over a window of ticks, from a tube for each stream that it reads. No other unit is looked at.
+#![tactic(auto)]
+
+mod carried;
+mod laws;
+mod opening;
+mod plan;
+mod renewing;
+mod rooms;
+
+pub use carried::Carried;
+pub use laws::{tubes_stay_opened, windows_are_open};
+pub use opening::opening_tube;
+pub use plan::WindowPlan;
+pub use renewing::renew;
+pub use rooms::{Inputs, Outputs};

@@ -1,0 +1,73 @@
+//! One unit's renewal, tick by tick.
+
+ghost use Rattle.std.specs.Prelude.{◌≡◌, ◌<◌, ◌≤◌, ◌+◌, length, take};
+ghost use Rattle.std.specs.List.{AllByRecursion};
+ghost use Rattle.relaxation.specs.Tube.{Tube};
+ghost use Rattle.relaxation.specs.Window.{row_of};
+ghost use Rattle.plant_units.specs.Units.{units_of};
+ghost use Rattle.renewal.specs.Room.{planned, AreOpened, HasRoomFor, renewal_of};
+ghost use Rattle.renewal.specs.Ticks.{IsRenewed};
+
+use crate::plan::WindowPlan;
+use crate::rooms::{Inputs, Outputs};
+use quant::Band;
+use tubes::Tube;
+
+/// The most input channels of a unit, a mixer of 8 streams, and the most states, those of a column.
+const INPUTS: usize = 24;
+
+const STATES: usize = 68;
+
+/// Copies the channels of these tubes at a tick to the front of `ins`, one after another, and tells how many they are.
+fn gather_at(tubes: &[Tube], tick: u32, ins: &mut [Band]) -> usize
+    requires ticked { AllByRecursion (λ tube. tick < length tube) tubes.now }
+    requires room { length (row_of tubes.now tick) ≤ length ins.old }
+    ensures count { result ≤ length ins.new }
+    ensures bands { take result ins.new ≡ row_of tubes.now tick }
+{
+    let mut place = 0;
+    for tube in tubes {
+        let channels = tube.row(tick);
+        ins[place..place + channels.len()].copy_from_slice(channels);
+        place += channels.len();
+    }
+    place
+}
+
+/// Renews one unit at one tick, in a room for the states of any unit: shows its outputs, and steps its states.
+fn renew_tick(
+    plan: &WindowPlan<'_>,
+    unit: u32,
+    inputs: &Inputs,
+    tick: u32,
+    room: &mut [Band],
+    outputs: &mut Outputs,
+)
+    requires unit { unit < length (units_of plan.now.parts) }
+    requires inputs { AreOpened plan.now (planned plan.now unit).reads inputs.now }
+    requires tick { tick < plan.now.ticks }
+    requires room { length room.old ≡ 68 }
+    requires renewed { IsRenewed plan.now unit inputs.now tick outputs.old }
+    ensures { IsRenewed plan.now unit inputs.now (tick + 1) outputs.new }
+{
+    let giver = &plan.plant().units()[unit as usize];
+    let mut ins = [Band::point(0); INPUTS];
+    let count = gather_at(inputs.as_slice(), tick, &mut ins);
+    outputs.show(giver, tick, &ins[..count]);
+    outputs.step(giver, tick, &ins[..count], room);
+}
+
+/// Renews one unit over the window from these tubes of the streams that it reads: it starts from the bands that are carried
+/// into its states, shows its outputs at each tick, and steps its states by the inputs of that tick. It takes no memory.
+pub fn renew(plan: &WindowPlan<'_>, unit: u32, inputs: &Inputs, outputs: &mut Outputs)
+    requires unit { unit < length (units_of plan.now.parts) }
+    requires inputs { AreOpened plan.now (planned plan.now unit).reads inputs.now }
+    requires room { HasRoomFor plan.now unit outputs.old }
+    ensures { outputs.new ≡ renewal_of plan.now unit inputs.now }
+{
+    let mut room = [Band::point(0); STATES];
+    outputs.carry(plan.carried().unit(unit));
+    for tick in 0..plan.ticks() {
+        renew_tick(plan, unit, inputs, tick, &mut room, outputs);
+    }
+}
