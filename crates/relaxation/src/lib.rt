@@ -19,5 +19,8 @@ pub use core_laws::{
 };
 pub use history_laws::{gathered_histories_are_adopted, seen_histories_are_enough};
 pub use sweep_laws::{appended_versions_keep_steps, sweeps_settle};
-pub use tube_laws::tests_are_relations;
+pub use tube_laws::{
+    meets_are_what_both_hold, narrower_tubes_are_less_wide, tests_are_relations,
+    tubes_lie_in_wider_ones,
+};
 pub use worked_laws::{worked_histories, worked_sweep, worked_window};
