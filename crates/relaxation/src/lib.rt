@@ -9,6 +9,7 @@
 
 mod core_laws;
 mod history_laws;
+mod renewal_laws;
 mod sweep_laws;
 mod tube_laws;
 mod worked_laws;
@@ -18,6 +19,7 @@ pub use core_laws::{
     legal_steps_keep_the_run, steps_join,
 };
 pub use history_laws::{gathered_histories_are_adopted, seen_histories_are_enough};
+pub use renewal_laws::{narrower_inputs_renew_to_narrower_outputs, registers_show_earlier_inputs};
 pub use sweep_laws::{
     appended_versions_keep_steps, idle_sweeps_are_quiet, steps_from_last_versions_settle,
     sweeps_settle,
