@@ -1,5 +1,6 @@
 pub mod BuildVerdicts
 pub mod Feeds
+pub mod Pieces
 pub mod Givens
 pub mod Inputs
 pub mod Judgements

@@ -5,6 +5,9 @@ use Rattle.quant.specs.Interval.{AllInside}
 use Rattle.flowsheet.specs.Plant as sheet
 use Rattle.flowsheet.specs.Plant.{IsRanked}
 use Rattle.flowsheet.specs.Limited.{IsLimited, AreBands}
+use Rattle.std.specs.List.{AllByRecursion}
+use Rattle.plant.specs.Ordered.{AreOrdered}
+use Rattle.plant.proofs.Pieces.{pieces-ordered}
 use Rattle.parts.specs.Parts.{FileParts}
 use Rattle.parts.specs.InRange.{AreInRange}
 use Rattle.parts.specs.Given.{given_bands}
@@ -71,6 +74,9 @@ parts-bands parts n plant = all-bands parts n plant.ranges (plant-sound parts pl
 pub parts-fed : (parts : FileParts) → IsPlant parts →
     (tick f : ℕ) → f < length parts.feeds → AllInside (given_bands parts tick f) (limits_at parts f)
 parts-fed parts plant tick f l = given-inside parts plant.ranges (are-passed parts plant.passes) tick f l
+
+pub parts-ordered : (parts : FileParts) → IsPlant parts → AllByRecursion (λ feed. AreOrdered feed.kind) parts.feeds
+parts-ordered parts plant = pieces-ordered parts plant.ranges (are-passed parts plant.passes)
 
 -- the limits of a unit's output are those of its stream
 source-limits : (parts : FileParts) → IsPlant parts → (s u p : ℕ) → IsSource parts s (source.Port u p) →

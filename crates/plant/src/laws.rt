@@ -1,4 +1,5 @@
 ghost use Rattle.std.specs.Prelude.{◌≡◌, ◌<◌, ℕ, suc, Ok, [], length, slice_index_or};
+ghost use Rattle.std.specs.List.{AllByRecursion};
 ghost use Rattle.quant.specs.Interval.{AllInside};
 ghost use Rattle.flowsheet.specs.Plant.{IsRanked, unit_at};
 ghost use Rattle.flowsheet.specs.Limited.{AreBands, IsLimited};
@@ -10,6 +11,7 @@ ghost use Rattle.plant.specs.Verdict.{IsVerdict};
 ghost use Rattle.plant.specs.PlantOf.{plant_of, carried_of};
 ghost use Rattle.plant.specs.Rows.{RowBands, opening_row, IsStep, HasStatesOf, HasFeedsOf, HasStreamsOf};
 ghost use Rattle.plant_streams.specs.Limits.{limits_at};
+ghost use Rattle.plant.specs.Ordered.{AreOrdered};
 ghost use Rattle.plant.specs.Sound.{ArePartsSound, IsOutput, IsPlant};
 
 /// In parts that pass the checks each unit meets what its steps ask for.
@@ -28,7 +30,8 @@ pub fn verdicts_exist()
 {}
 
 /// The parts of a built plant are a plant of the definitions: its ranks are right, its units keep their limits, its
-/// bands have numbers in them, and its feeds are inside their limits.
+/// bands have numbers in them, and its feeds are inside their limits, with their pieces in order: one is in force at each
+/// tick.
 pub fn built_plants_are_plants()
     ensures ranked { (parts : FileParts) → IsPlant parts → IsRanked (plant_of parts) }
     ensures limited { (parts : FileParts) → IsPlant parts → IsLimited (plant_of parts) (carried_of parts) }
@@ -37,6 +40,7 @@ pub fn built_plants_are_plants()
     ensures fed { (parts : FileParts) → IsPlant parts →
         (tick f : ℕ) → f < length parts.feeds →
         AllInside (given_bands parts tick f) (limits_at parts f) }
+    ensures ordered { (parts : FileParts) → IsPlant parts → AllByRecursion (λ feed. AreOrdered feed.kind) parts.feeds }
 {}
 
 /// The limits of a unit's output are those of the channels of its stream.
