@@ -1,6 +1,5 @@
 //! What is built of parts, and why some are refused.
 
-use crate::given::{is_refused, plant_in};
 use plant::Plant;
 use plant_texts::{
     COLUMN, LOW_FLOW, MIXER, PAIR, RATES, REACTOR, SPLITTER, TANK, Unit, plant_with, with_splitters,
@@ -8,6 +7,7 @@ use plant_texts::{
 use std::alloc::Global;
 use std::process::Abort;
 use std::test::Fail;
+use text_plants::{is_refused, plant_in};
 
 const STREAMS: [(&str, bool); 6] = [
     ("f", false),

@@ -4,6 +4,4 @@
 #[cfg(test)]
 mod builds;
 #[cfg(test)]
-mod given;
-#[cfg(test)]
 mod rows;

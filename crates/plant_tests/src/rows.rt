@@ -4,13 +4,13 @@ ghost use Rattle.std.specs.Prelude.{◌<◌, length};
 ghost use Rattle.std.specs.Bool.{OnTrue};
 ghost use Rattle.plant.specs.Rows.{IsRow, stream_in};
 
-use crate::given::plant_in;
 use plant::{Plant, Row};
 use plant_texts::{LOW_FLOW, TANK, Unit, plant_with};
 use quant::Band;
 use std::alloc::Global;
 use std::process::Abort;
 use std::test::Fail;
+use text_plants::plant_in;
 
 /// Fed by `f` and opened by `v`: its plant's streams are these two, the outflow and the level.
 const WORKED_TANK: Unit = ("t", TANK, &[]);

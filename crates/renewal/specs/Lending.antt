@@ -1,7 +1,6 @@
 -- What a room's tubes become by a write behind a reference to one of them.
 use Rattle.std.specs.Prelude.{ℕ, List, slice_set}
 use Rattle.std.specs.Borrow.{Lends, MutBor, Fml}
-use Rattle.quant.specs.Interval.{Interval}
 use Rattle.relaxation.specs.Tube.{Tube}
 use Rattle.tubes.specs.contracts.tube.Tube as one
 use Rattle.renewal.specs.contracts.rooms.Inputs as room

@@ -1,15 +1,13 @@
 -- The unit takes what its tubes have at the tick, and one tick more is renewed.
-use Rattle.std.proofs.Common.{◌≡◌, ◌≤◌, ◌<◌, ◌+◌, ◌∙◌, ℕ, List, length, take, ap, sym, subst, arith}
+use Rattle.std.proofs.Common.{◌≡◌, ◌+◌, ◌∙◌, ℕ, List, length, take, ap, sym, subst, arith}
 use Rattle.std.specs.Prelude.{slice_set}
 use Rattle.quant.specs.Interval.{Interval, AllInside}
-use Rattle.quant.proofs.Calls.{inside-length}
 use Rattle.relaxation.specs.Tube.{Tube, at}
 use Rattle.relaxation.specs.Window.{row_of}
 use Rattle.plant_units.specs.declared.units.Unit.{Unit}
 use Rattle.plant_units.specs.Units.{units_of, state_limits_of, MayTake}
 use Rattle.plant_units.specs.Steps.{views, steps}
 use Rattle.plant_units.proofs.AllKinds.{takes-few}
-use Rattle.renewal.specs.Plan.{PlanOf}
 use Rattle.renewal.specs.Room.{RenewalOf}
 use Rattle.renewal.specs.Ticks.{spread_at, IsRenewed}
 use Rattle.renewal.proofs.Givers.{is-giver, row-taken, tubes-ticked, state-limits-are}

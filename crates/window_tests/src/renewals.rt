@@ -1,0 +1,155 @@
+//! Renewals of a tank and a mixer behind the feeds of `plant_texts`: 10 to 12 mL a tick at 100 mg/L and 300,000 mK.
+
+use crate::windows::window_in;
+use plant_texts::{LOW_FLOW, MIXER, TANK, Unit, plant_with};
+use quant::Band;
+use renewal::{Inputs, Outputs, WindowPlan, renew, tubes_stay_opened};
+use std::alloc::Global;
+use std::process::Abort;
+use std::test::Fail;
+use text_plants::plant_in;
+use tubes::Tube;
+
+/// It holds 1000 mL and lets out 10,000 ppm of them a tick.
+const WORKED_TANK: Unit = ("t", TANK, &[]);
+
+const WORKED_MIXER: Unit = ("m", MIXER, &[]);
+
+/// The renewal of a unit from the tubes that its streams open with.
+fn renewed(alloc: Global, plan: &WindowPlan<'_>, unit: u32) -> Result<Outputs, Fail> {
+    if plan.plant().units().len() <= unit as usize {
+        return Err("no such unit".into());
+    }
+    tubes_stay_opened();
+    let inputs = Inputs::room(alloc, plan, unit)?;
+    let mut outputs = Outputs::room(alloc, plan, unit)?;
+    renew(plan, unit, &inputs, &mut outputs);
+    Ok(outputs)
+}
+
+/// The renewal of a unit where its first input has this tube, which lies inside that which the stream opens with.
+fn renewed_from(
+    alloc: Global,
+    plan: &WindowPlan<'_>,
+    unit: u32,
+    tube: &Tube,
+) -> Result<Outputs, Fail> {
+    if plan.plant().units().len() <= unit as usize {
+        return Err("no such unit".into());
+    }
+    let mut inputs = Inputs::room(alloc, plan, unit)?;
+    let mut outputs = Outputs::room(alloc, plan, unit)?;
+    if inputs.as_slice().is_empty() {
+        return Err("no input".into());
+    }
+    let opening = &inputs.as_slice()[0];
+    if !tube.fits(opening) || !tube.inside(opening) {
+        return Err("not inside".into());
+    }
+    tubes_stay_opened();
+    inputs.read(0, tube);
+    renew(plan, unit, &inputs, &mut outputs);
+    Ok(outputs)
+}
+
+/// The ends of the band of a channel at a tick.
+fn ends_at(tube: &Tube, tick: u32, channel: usize) -> Option<(i64, i64)> {
+    if tube.ticks() <= tick {
+        return None;
+    }
+    tube.row(tick).get(channel).map(|band| (band.lo, band.hi))
+}
+
+/// The ends that each channel has at a tick.
+type Want = (u32, &'static [(i64, i64)]);
+
+/// Compares rows of a tube.
+fn has_rows<R: Abort>(rt: &R, tube: &Tube, wants: &[Want]) {
+    for (tick, row) in wants {
+        for (channel, ends) in row.iter().enumerate() {
+            assert_eq!(rt;
+                ends_at(tube, *tick, channel),
+                Some(*ends),
+                "at {tick}, {channel}"
+            );
+        }
+    }
+}
+
+/// The flow, the conc and the temp of the tank's outflow.
+const OUTFLOW: [Want; 3] = [
+    (0, &[(10, 10), (0, 0), (300_000, 300_000)]),
+    (1, &[(10, 10), (1, 1), (300_000, 300_000)]),
+    (2, &[(10, 10), (1, 2), (300_000, 300_000)]),
+];
+
+/// Its level.
+const LEVEL: [Want; 3] = [
+    (0, &[(1_000, 1_000)]),
+    (1, &[(1_000, 1_002)]),
+    (2, &[(1_000, 1_004)]),
+];
+
+/// The volume and the flow that it steps to at the end of the window.
+const LAST: [Want; 1] = [(3, &[(1_000, 1_006), (10, 10)])];
+
+#[test]
+fn renewal_of_the_worked_tank(rt: HostRuntime) -> Result<(), Fail> {
+    let text = plant_with(rt.alloc(), &[WORKED_TANK], &[LOW_FLOW])?;
+    let plant = plant_in(rt.alloc(), &text)?;
+    let plan = window_in(rt.alloc(), &plant, 3)?;
+    let outputs = renewed(rt.alloc(), &plan, 0)?;
+    assert_eq!(rt; outputs.as_slice().len(), 2);
+    has_rows(&rt, outputs.port(0), &OUTFLOW);
+    has_rows(&rt, outputs.port(1), &LEVEL);
+    has_rows(&rt, outputs.states(), &LAST);
+    Ok(())
+}
+
+/// Two of the feed's streams together, at each tick.
+const MIXED: [Want; 2] = [
+    (0, &[(20, 24), (100, 100), (300_000, 300_000)]),
+    (2, &[(20, 24), (100, 100), (300_000, 300_000)]),
+];
+
+#[test]
+fn renewal_of_a_mixer(rt: HostRuntime) -> Result<(), Fail> {
+    let text = plant_with(rt.alloc(), &[WORKED_MIXER], &[])?;
+    let plant = plant_in(rt.alloc(), &text)?;
+    let plan = window_in(rt.alloc(), &plant, 3)?;
+    let outputs = renewed(rt.alloc(), &plan, 0)?;
+    assert_eq!(rt; outputs.as_slice().len(), 1);
+    has_rows(&rt, outputs.port(0), &MIXED);
+    assert_eq!(rt; outputs.states().ticks(), 4);
+    assert_eq!(rt; ends_at(outputs.states(), 3, 0), None);
+    Ok(())
+}
+
+/// A tube with another band in one place.
+fn with_band(mut tube: Tube, tick: u32, channel: u32, band: Band) -> Result<Tube, Fail> {
+    if tube.ticks() <= tick || tube.row(tick).len() <= channel as usize {
+        return Err("no such place".into());
+    }
+    tube.set(tick, channel, band);
+    Ok(tube)
+}
+
+/// The level where 11 mL flow in at tick 1.
+const NARROWER: [Want; 3] = [
+    (0, &[(1_000, 1_000)]),
+    (1, &[(1_000, 1_002)]),
+    (2, &[(1_001, 1_003)]),
+];
+
+#[test]
+fn renewal_from_a_narrower_tube(rt: HostRuntime) -> Result<(), Fail> {
+    let text = plant_with(rt.alloc(), &[WORKED_TANK], &[LOW_FLOW])?;
+    let plant = plant_in(rt.alloc(), &text)?;
+    let plan = window_in(rt.alloc(), &plant, 3)?;
+    let fed = plan.feeds().as_slice().first().ok_or("no feed")?;
+    let tube = with_band(fed.copied(rt.alloc())?, 1, 0, Band::point(11))?;
+    let outputs = renewed_from(rt.alloc(), &plan, 0, &tube)?;
+    assert_eq!(rt; outputs.as_slice().len(), 2);
+    has_rows(&rt, outputs.port(1), &NARROWER);
+    Ok(())
+}
