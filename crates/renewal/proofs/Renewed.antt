@@ -16,7 +16,7 @@ use Rattle.relaxation.specs.Window.{row_of, renewal}
 use Rattle.plant_units.specs.declared.units.Unit.{Unit}
 use Rattle.plant_units.specs.Units.{state_limits_of}
 use Rattle.plant_units.specs.Steps.{views, steps}
-use Rattle.plant_units.proofs.AllKinds.{steps-inside, ports-alike}
+use Rattle.plant_units.proofs.AllKinds.{steps-inside, states-few, ports-alike}
 use Rattle.plant.specs.PlantOf.{plant_of}
 use Rattle.plant.proofs.Showing.{shown_rows, views-rows}
 use Rattle.renewal.specs.Plan.{PlanOf, carried_into, window_of}
@@ -72,12 +72,21 @@ module _ (plan : PlanOf) (u : ℕ) (x : Unit) (g : IsGiver plan u x) (tubes : Li
   states-inside made n r = subst (λ (state : List Interval). AllInside state (state_limits_of x)) (sym (r.stepped n (omega arith)))
       (states-limited plan u x g (row_of tubes) n)
 
-  -- the bands that are carried in
+  -- the bands that are carried in: there are few
+  pub carried-few : length (carried_into plan u) ≤ 68
+  carried-few = states-few x (carried_into plan u) g.sound.sound (states-limited plan u x g (row_of tubes) 0)
+
+  pub carried-counted : length (carried_into plan u) ≡ length (planned plan u).state_limits
+  carried-counted =
+      inside-length (carried_into plan u) (state_limits_of x) (states-limited plan u x g (row_of tubes) 0)
+      ∙ ap length (sym (state-limits-are plan u x g))
+
   pub carried-wide : (made : RenewalOf) → HasRoomFor plan u made → length (carried_into plan u) ≡ length (at made.states 0)
   carried-wide made room =
       inside-length (carried_into plan u) (state_limits_of x) (states-limited plan u x g (row_of tubes) 0)
       ∙ sym (states-wide plan u x g made 0 room (omega arith))
 
+  -- they are the first states
   pub renewed-none : (made : RenewalOf) → HasRoomFor plan u made →
       IsRenewed plan u tubes 0 (record { ports = made.ports; states = slice_set made.states 0 (carried_into plan u) })
   renewed-none made room =

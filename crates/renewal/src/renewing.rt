@@ -34,19 +34,19 @@ fn gather_at(tubes: &[Tube], tick: u32, ins: &mut [Band]) -> usize
     place
 }
 
-/// Renews one unit at one tick, in a room for the states of any unit: shows its outputs, and steps its states.
+/// Renews one unit at one tick: shows its outputs, and steps its states; `new` has room for them.
 fn renew_tick(
     plan: &WindowPlan<'_>,
     unit: u32,
     inputs: &Inputs,
     tick: u32,
-    room: &mut [Band],
+    new: &mut [Band],
     outputs: &mut Outputs,
 )
     requires unit { unit < length (units_of plan.now.parts) }
     requires inputs { AreOpened plan.now (planned plan.now unit).reads inputs.now }
     requires tick { tick < plan.now.ticks }
-    requires room { length room.old ≡ 68 }
+    requires room { length new.old ≡ length (planned plan.now unit).state_limits }
     requires renewed { IsRenewed plan.now unit inputs.now tick outputs.old }
     ensures { IsRenewed plan.now unit inputs.now (tick + 1) outputs.new }
 {
@@ -54,7 +54,7 @@ fn renew_tick(
     let mut ins = [Band::point(0); INPUTS];
     let count = gather_at(inputs.as_slice(), tick, &mut ins);
     outputs.show(giver, tick, &ins[..count]);
-    outputs.step(giver, tick, &ins[..count], room);
+    outputs.step(giver, tick, &ins[..count], new);
 }
 
 /// Renews one unit over the window from these tubes of the streams that it reads: it starts from the bands that are carried
@@ -63,11 +63,14 @@ pub fn renew(plan: &WindowPlan<'_>, unit: u32, inputs: &Inputs, outputs: &mut Ou
     requires unit { unit < length (units_of plan.now.parts) }
     requires inputs { AreOpened plan.now (planned plan.now unit).reads inputs.now }
     requires room { HasRoomFor plan.now unit outputs.old }
-    ensures { outputs.new ≡ renewal_of plan.now unit inputs.now }
+    ensures renewal { outputs.new ≡ renewal_of plan.now unit inputs.now }
+    ensures room { HasRoomFor plan.now unit outputs.new }
 {
+    let carried = plan.carried().unit(unit);
     let mut room = [Band::point(0); STATES];
-    outputs.carry(plan.carried().unit(unit));
+    let new = &mut room[..carried.len()];
+    outputs.carry(carried);
     for tick in 0..plan.ticks() {
-        renew_tick(plan, unit, inputs, tick, &mut room, outputs);
+        renew_tick(plan, unit, inputs, tick, new, outputs);
     }
 }

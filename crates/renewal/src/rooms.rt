@@ -172,21 +172,21 @@ impl Outputs {
         spread_at(outs, tick, self.tubes.as_mut_slice());
     }
 
-    /// Puts what a unit steps to, from its states and these inputs at a tick, in the place of its states at the next.
-    pub(crate) fn step(&mut self, unit: &Unit, tick: u32, ins: &[Band], room: &mut [Band])
+    /// Puts what a unit steps to, from its states and these inputs at a tick, in the place of its states at the next; `new` has
+    /// room for them.
+    pub(crate) fn step(&mut self, unit: &Unit, tick: u32, ins: &[Band], new: &mut [Band])
         requires sound { IsUnitSound unit.now }
         requires tick { tick + 1 < length self.old.states }
         requires states { AllInside (at self.old.states tick) (state_limits_of unit.now) }
         requires inputs { MayTake unit.now ins.now }
+        requires room { length new.old ≡ length (state_limits_of unit.now) }
         requires next { length (at self.old.states (tick + 1)) ≡ length (state_limits_of unit.now) }
-        requires room { length (state_limits_of unit.now) ≤ length room.old }
         requires few { length self.old.states ≤ 65 }
         ensures { self.new ≡ record {
           ports = self.old.ports;
           states = slice_set self.old.states (tick + 1) (steps unit.now (at self.old.states tick) ins.now);
         } }
     {
-        let new = &mut room[..self.states.row(tick).len()];
         unit.next(self.states.row(tick), ins, new);
         self.states.write(tick + 1, new);
     }

@@ -1,5 +1,5 @@
 -- The unit takes what its tubes have at the tick, and one tick more is renewed.
-use Rattle.std.proofs.Common.{◌≡◌, ◌+◌, ◌∙◌, ℕ, List, length, take, ap, sym, subst, arith}
+use Rattle.std.proofs.Common.{◌≡◌, ◌≤◌, ◌<◌, ◌+◌, ◌∙◌, ℕ, List, length, take, ap, sym, subst, arith}
 use Rattle.std.specs.Prelude.{slice_set}
 use Rattle.quant.specs.Interval.{Interval, AllInside}
 use Rattle.quant.proofs.Calls.{inside-length}
@@ -8,10 +8,11 @@ use Rattle.relaxation.specs.Window.{row_of}
 use Rattle.plant_units.specs.declared.units.Unit.{Unit}
 use Rattle.plant_units.specs.Units.{units_of, state_limits_of, MayTake}
 use Rattle.plant_units.specs.Steps.{views, steps}
-use Rattle.plant_units.proofs.AllKinds.{takes-few, states-few}
+use Rattle.plant_units.proofs.AllKinds.{takes-few}
+use Rattle.renewal.specs.Plan.{PlanOf}
 use Rattle.renewal.specs.Room.{RenewalOf}
 use Rattle.renewal.specs.Ticks.{spread_at, IsRenewed}
-use Rattle.renewal.proofs.Givers.{is-giver, row-taken, tubes-ticked}
+use Rattle.renewal.proofs.Givers.{is-giver, row-taken, tubes-ticked, state-limits-are}
 use Rattle.renewal.proofs.Renewed.{states-inside, states-counted, states-wide, shown-filled, renewed-more}
 use Rattle.renewal.proofs.renewing.renew_tick.Goals as goal
 
@@ -147,8 +148,7 @@ step-requires-clause-room c =
     let x = c.index-units-unit.result in
     let g = is-giver plan c.args.unit x _ c.plant.ensures.plan c.requires.unit c.index-units-unit.is
     (c.units.ensures ∙ ap units_of c.plant.ensures.plant) in
-    let inside = states-inside plan c.args.unit x g c.args.inputs.now c.args.outputs.now c.args.tick c.requires.renewed in
-    omega (arith, inside-length _ (state_limits_of x) inside, states-few x _ g.sound.sound inside, c.requires.room)
+    c.requires.room ∙ ap length (state-limits-are plan c.args.unit x g)
 
 pub returns : goal.returns
 returns c =
