@@ -4,9 +4,13 @@ ghost use Rattle.plant.specs.PlantOf.{plant_of};
 ghost use Rattle.flowsheet.specs.Plant.{origin_of};
 ghost use Rattle.relaxation.specs.Core.{versions_of, last_of};
 ghost use Rattle.relax_core.specs.Board.{opening_board};
+ghost use Rattle.relax_core.specs.Rooms.{HasRooms};
+ghost use Rattle.renewal.specs.Plan.{IsPlan};
 ghost use Rattle.relax_core.specs.Stepping.{reads_for, IsOutputOf, Steps};
 
+use crate::lines::Lines;
 use crate::refs::Refs;
+use crate::room::Room;
 use renewal::WindowPlan;
 use std::alloc::{AllocError, Global};
 use std::marker::Model;
@@ -45,39 +49,38 @@ impl Model for StepRow {
     ghost view = { λ row. record { stream = row.stream; version = row.version; refs = row.refs } };
 }
 
-/// The versions of a stream, oldest first.
-#[derive(Drop)]
-struct Line {
-    tubes: Vec<Tube>,
-}
-
-impl Model for Line {
-    ghost use Rattle.std.specs.Prelude.{List};
-    ghost use Rattle.quant.specs.Interval.{Interval};
-
-    ghost Value = { List (List (List Interval)) };
-
-    ghost view = { λ line. line.tubes.items };
-}
-
 /// The versions of each stream of a window, and the steps that made them.
 #[derive(Drop)]
 pub struct Board<'p> {
     plan: &'p WindowPlan<'p>,
-    lines: Vec<Line>,
+    lines: Lines,
     rows: Vec<StepRow>,
+    /// For each unit.
+    rooms: Vec<Room>,
 }
 
 impl<'p> Model for Board<'p> {
-    ghost use Rattle.relax_core.specs.Board.{BoardOf, IsBoard};
+    ghost use Rattle.relax_core.specs.Board.{BoardOf};
+    ghost use Rattle.relax_core.specs.Rooms.{IsKept};
 
     ghost Value = { BoardOf };
 
-    ghost view = { λ board. record { plan = board.plan.now; versions = board.lines.items; rows = board.rows.items } };
+    ghost view = { λ board. record { plan = board.plan.now; versions = board.lines; rows = board.rows.items } };
 
-    ghost invariant = { λ board. IsBoard (record {
-        plan = board.plan.now; versions = board.lines.items; rows = board.rows.items;
-    }) };
+    ghost invariant = { λ board. IsKept
+        (record { plan = board.plan.now; versions = board.lines; rows = board.rows.items }) board.rooms.items };
+}
+
+/// Room for each unit of a plan.
+fn rooms_of(alloc: Global, plan: &WindowPlan<'_>) -> Result<Vec<Room>, AllocError>
+    ensures plan { IsPlan plan.now }
+    ensures rooms { IfOk result (λ rooms. HasRooms plan.now rooms.items) }
+{
+    let mut rooms = Vec::new(alloc);
+    for unit in 0..plan.plant().units().len() {
+        rooms.push(Room::new(alloc, plan, unit as u32)?)?;
+    }
+    Ok(rooms)
 }
 
 impl<'p> Board<'p> {
@@ -85,24 +88,30 @@ impl<'p> Board<'p> {
     pub fn open(alloc: Global, plan: &'p WindowPlan<'p>) -> Result<Self, AllocError>
         ensures { IfOk result (λ board. board ≡ opening_board plan.now) }
     {
-        Err(AllocError)
+        let lines = Lines::open(alloc, plan)?;
+        let rooms = rooms_of(alloc, plan)?;
+        Ok(Board {
+            plan,
+            lines,
+            rows: Vec::new(alloc),
+            rooms,
+        })
     }
 
     /// How many versions of a stream there are.
     pub fn versions(&self, stream: u32) -> u32
-        requires { stream < length self.now.versions }
+        requires { stream < length (streams_of self.now.plan.parts) }
         ensures { result ≡ length (versions_of self.now.versions stream) }
     {
-        self.lines[stream as usize].tubes.as_slice().len() as u32
+        self.lines.count(stream) as u32
     }
 
     /// The last version of a stream.
     pub fn last(&self, stream: u32) -> &Tube
-        requires { stream < length self.now.versions }
+        requires { stream < length (streams_of self.now.plan.parts) }
         ensures { result.now ≡ last_of self.now.versions stream }
     {
-        let tubes = self.lines[stream as usize].tubes.as_slice();
-        &tubes[tubes.len() - 1]
+        self.lines.last(stream)
     }
 
     /// The steps that narrowed so far.
@@ -114,7 +123,12 @@ impl<'p> Board<'p> {
 
     /// Renews a stream from the versions with these numbers of what its unit reads, and appends the meet with its last
     /// version where that is narrower.
-    pub fn step(&mut self, alloc: Global, stream: u32, versions: &[u32]) -> Result<Stepped, StepFault>
+    pub fn step(
+        &mut self,
+        alloc: Global,
+        stream: u32,
+        versions: &[u32],
+    ) -> Result<Stepped, StepFault>
         requires stream { stream < length (streams_of self.old.plan.parts) }
         requires given { IsOutputOf (origin_of (plant_of self.old.plan.parts) stream) }
         requires counted { length versions.now ≡ length (reads_for self.old.plan stream) }

@@ -2,7 +2,9 @@
 #![tactic(auto)]
 
 mod board;
+mod lines;
 mod refs;
+mod room;
 
 pub use board::{Board, StepFault, StepRow, Stepped};
 pub use refs::Refs;

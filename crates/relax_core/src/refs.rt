@@ -8,9 +8,34 @@ pub struct Refs {
 }
 
 impl Model for Refs {
-    ghost use Rattle.std.specs.Prelude.{List, ℕ, take};
+    ghost use Rattle.std.specs.Prelude.{List, ℕ, ◌≤◌, take};
 
     ghost Value = { List ℕ };
 
     ghost view = { λ refs. take refs.count refs.numbers };
+
+    ghost invariant = { λ refs. refs.count ≤ 8 };
+}
+
+impl Refs {
+    ghost use Rattle.std.specs.Prelude.{◌≡◌, ◌≤◌, length};
+
+    /// These numbers, at most 8 of them.
+    pub fn of(numbers: &[u32]) -> Self
+        requires { length numbers.now ≤ 8 }
+        ensures { result ≡ numbers.now }
+    {
+        let mut kept = [0; 8];
+        kept[..numbers.len()].copy_from_slice(numbers);
+        Refs {
+            count: numbers.len() as u32,
+            numbers: kept,
+        }
+    }
+
+    pub fn as_slice(&self) -> &[u32]
+        ensures { result.now ≡ self.now }
+    {
+        &self.numbers[..self.count as usize]
+    }
 }
