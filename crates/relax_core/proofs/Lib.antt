@@ -1,3 +1,6 @@
 pub mod Boards
 pub mod Counts
 pub mod Rooms
+pub mod Settled
+pub mod Sweeping
+pub mod Turning
