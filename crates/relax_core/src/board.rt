@@ -52,7 +52,7 @@ impl Model for StepRow {
 /// The versions of each stream of a window, and the steps that made them.
 #[derive(Drop)]
 pub struct Board<'p> {
-    plan: &'p WindowPlan<'p>,
+    pub(crate) plan: &'p WindowPlan<'p>,
     lines: Lines,
     rows: Vec<StepRow>,
     /// For each unit.

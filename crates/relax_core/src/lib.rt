@@ -5,6 +5,7 @@ mod board;
 mod lines;
 mod refs;
 mod room;
+mod settle;
 
 pub use board::{Board, StepFault, StepRow, Stepped};
 pub use refs::Refs;
