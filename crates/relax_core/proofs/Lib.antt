@@ -1,3 +1,6 @@
 pub mod Boards
 pub mod Counts
+pub mod Meets
+pub mod Readings
+pub mod Renewals
 pub mod Rooms

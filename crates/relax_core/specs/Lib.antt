@@ -1,3 +1,4 @@
 pub mod Board
+pub mod Making
 pub mod Rooms
 pub mod Stepping

@@ -33,6 +33,17 @@ pub enum StepFault {
     NoMemory,
 }
 
+impl From<AllocError> for StepFault {
+    ghost use Rattle.std.specs.Prelude.{◌≡◌};
+    ghost use Rattle.relax_core.specs.declared.board.StepFault.TheVariants.{NoMemory};
+
+    ghost from_gives = { λ _ fault. fault ≡ NoMemory };
+
+    fn from(_error: AllocError) -> StepFault {
+        StepFault::NoMemory
+    }
+}
+
 /// A step that narrowed a stream: the version that it appended, and those that it read.
 #[derive(Debug, Drop)]
 pub struct StepRow {
