@@ -4,3 +4,4 @@ pub mod Meets
 pub mod Readings
 pub mod Renewals
 pub mod Rooms
+pub mod Steps

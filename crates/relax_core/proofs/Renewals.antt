@@ -1,13 +1,14 @@
 -- What a unit's renewal gives is room for its next one.
-use Rattle.std.proofs.Common.{◌≡◌, ℕ, zero, suc, ◌+◌, ◌<◌, ◌≤◌, List, length, subst, arith}
-use Rattle.std.specs.Prelude.{slice_set}
+use Rattle.std.proofs.Common.{◌≡◌, ℕ, zero, suc, ◌+◌, ◌<◌, ◌≤◌, List, [], length, ap, ◌∙◌, subst, arith}
+use Rattle.std.specs.Prelude.{slice_set, slice_index_or}
+use Rattle.std.proofs.lemmas.List.FromFn.{get_or-map-range_with_len, length-map-range_with_len}
 use Rattle.relaxation.specs.Tube.{Tube, at}
-use Rattle.relaxation.specs.Window.{row_of}
+use Rattle.relaxation.specs.Window.{row_of, renewal}
 use Rattle.plant_units.specs.declared.units.Unit.{Unit}
 use Rattle.plant_units.specs.Units.{units_of}
 use Rattle.plant_units.specs.Steps.{views, steps}
-use Rattle.renewal.specs.Plan.{PlanOf, IsPlan}
-use Rattle.renewal.specs.Room.{RenewalOf, HasRoomFor, renewal_of}
+use Rattle.renewal.specs.Plan.{PlanOf, IsPlan, window_of}
+use Rattle.renewal.specs.Room.{RenewalOf, HasRoomFor, renewal_of, planned}
 use Rattle.renewal.specs.Ticks.{spread_at, IsRenewed}
 use Rattle.renewal.proofs.Givers.{IsGiver, some-giver}
 use Rattle.renewal.proofs.Renewed.{renewed-none, renewed-more, renewed-whole}
@@ -37,3 +38,17 @@ pub renewed-room : (plan : PlanOf) (u : ℕ) (tubes : List Tube) (made : Renewal
 renewed-room plan u tubes made h l room =
     let f = some-giver plan u h l in
     whole-room plan u f.0 f.1 tubes (each-tick plan u f.0 f.1 tubes made room plan.ticks (omega arith))
+
+-- the tubes of its outputs
+abbrev port-tube : PlanOf → ℕ → List Tube → ℕ → Tube
+port-tube plan u tubes p = renewal (window_of plan) u p tubes
+
+pub ports-counted : (plan : PlanOf) (u : ℕ) (tubes : List Tube) (made : RenewalOf) → made ≡ renewal_of plan u tubes →
+    length made.ports ≡ length (planned plan u).view
+ports-counted plan u tubes made e = ap (λ (m : RenewalOf). length m.ports) e
+    ∙ length-map-range_with_len (port-tube plan u tubes) 0 (length (planned plan u).view)
+
+pub port-is : (plan : PlanOf) (u : ℕ) (tubes : List Tube) (made : RenewalOf) (p : ℕ) (tube : Tube) → made ≡ renewal_of plan u tubes →
+    tube ≡ slice_index_or made.ports p [] → p < length (planned plan u).view → tube ≡ renewal (window_of plan) u p tubes
+port-is plan u tubes made p tube e k l = k ∙ ap (λ (m : RenewalOf). slice_index_or m.ports p []) e
+    ∙ get_or-map-range_with_len (port-tube plan u tubes) 0 (length (planned plan u).view) p p [] l (omega arith)

@@ -8,7 +8,9 @@ ghost use Rattle.relax_core.specs.Rooms.{HasRooms};
 ghost use Rattle.renewal.specs.Plan.{IsPlan};
 ghost use Rattle.relax_core.specs.Stepping.{reads_for, IsOutputOf, Steps};
 
+use crate::givers::{giver, reads};
 use crate::lines::Lines;
+use crate::making::{append, first_missing};
 use crate::refs::Refs;
 use crate::room::Room;
 use renewal::WindowPlan;
@@ -145,6 +147,19 @@ impl<'p> Board<'p> {
         requires counted { length versions.now ≡ length (reads_for self.old.plan stream) }
         ensures { Steps result self.old (record { stream = stream; inputs = versions.now }) self.new }
     {
-        Err(StepFault::NoMemory)
+        let (unit, port) = giver(self.plan, stream);
+        if let Some(fault) = first_missing(&self.lines, reads(self.plan, unit), versions) {
+            return Err(fault);
+        }
+        let room = &mut self.rooms[unit as usize];
+        room.renew(self.plan, unit, &self.lines, versions);
+        append(
+            alloc,
+            &mut self.lines,
+            &mut self.rows,
+            stream,
+            room.outputs.port(port),
+            versions,
+        )
     }
 }
