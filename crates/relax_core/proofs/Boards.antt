@@ -15,6 +15,8 @@ use Rattle.plant.specs.PlantOf.{plant_of}
 use Rattle.plant.proofs.Lookups.{streams-counted}
 use Rattle.renewal.specs.Plan.{PlanOf, IsPlan, window_of}
 use Rattle.renewal.proofs.Windows.{is-open}
+use Rattle.relax_core.specs.Making.{AreVersionsWithin}
+use Rattle.relax_core.proofs.Readings.{stream-there}
 use Rattle.relax_core.specs.Board.{RowOf, BoardOf, IsBoard, step_in, rows_from, steps_in, opened, opening_board, after}
 
 pub opening-is : (plan : PlanOf) → IsPlan plan → IsBoard (opening_board plan)
@@ -41,7 +43,7 @@ module _ (board : BoardOf) (is : IsBoard board) where
   pub streams-there : length board.versions ≡ length (streams_of board.plan.parts)
   streams-there = board-kept.counted ∙ streams-counted board.plan.parts
 
-  stream-below : (s : ℕ) → s < length (streams_of board.plan.parts) → s < length window.plant.streams
+  pub stream-below : (s : ℕ) → s < length (streams_of board.plan.parts) → s < length window.plant.streams
   stream-below s l = subst (λ n. s < n) (sym (streams-counted board.plan.parts)) l
 
   pub some-version : (s : ℕ) → s < length (streams_of board.plan.parts) → 0 < length (versions_of board.versions s)
@@ -106,3 +108,8 @@ pub version-there : (board : BoardOf) (is : IsBoard board) (seen : BoardOf) → 
     s < length (streams_of seen.plan.parts) → 0 < length (versions_of board.versions s)
 version-there board is seen e s l =
     some-version board is s (subst (λ (x : BoardOf). s < length (streams_of x.plan.parts)) (sym e) l)
+
+-- each version lies in the tube that its stream opens with
+pub all-within : (board : BoardOf) → IsBoard board → AreVersionsWithin board.plan board.versions
+all-within board is s k m =
+    versions-within board is s k (omega (arith, stream-there board.versions s k m, streams-there board is)) m

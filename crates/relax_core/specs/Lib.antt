@@ -1,4 +1,5 @@
 pub mod Board
+pub mod Making
 pub mod Rooms
 pub mod Settling
 pub mod Stepping

@@ -8,7 +8,9 @@ ghost use Rattle.relax_core.specs.Rooms.{HasRooms};
 ghost use Rattle.renewal.specs.Plan.{IsPlan};
 ghost use Rattle.relax_core.specs.Stepping.{reads_for, IsOutputOf, Steps};
 
+use crate::givers::{giver, reads};
 use crate::lines::Lines;
+use crate::making::{append, first_missing};
 use crate::refs::Refs;
 use crate::room::Room;
 use renewal::WindowPlan;
@@ -31,6 +33,17 @@ pub enum StepFault {
     /// At this input port a version was wanted that is not among the `have` that are there.
     NoSuchVersion { input: u32, wanted: u32, have: u32 },
     NoMemory,
+}
+
+impl From<AllocError> for StepFault {
+    ghost use Rattle.std.specs.Prelude.{◌≡◌};
+    ghost use Rattle.relax_core.specs.declared.board.StepFault.TheVariants.{NoMemory};
+
+    ghost from_gives = { λ _ fault. fault ≡ NoMemory };
+
+    fn from(_error: AllocError) -> StepFault {
+        StepFault::NoMemory
+    }
 }
 
 /// A step that narrowed a stream: the version that it appended, and those that it read.
@@ -134,6 +147,19 @@ impl<'p> Board<'p> {
         requires counted { length versions.now ≡ length (reads_for self.old.plan stream) }
         ensures { Steps result self.old (record { stream = stream; inputs = versions.now }) self.new }
     {
-        Err(StepFault::NoMemory)
+        let (unit, port) = giver(self.plan, stream);
+        if let Some(fault) = first_missing(&self.lines, reads(self.plan, unit), versions) {
+            return Err(fault);
+        }
+        let room = &mut self.rooms[unit as usize];
+        room.renew(self.plan, unit, &self.lines, versions);
+        append(
+            alloc,
+            &mut self.lines,
+            &mut self.rows,
+            stream,
+            room.outputs.port(port),
+            versions,
+        )
     }
 }

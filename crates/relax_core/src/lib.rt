@@ -2,7 +2,9 @@
 #![tactic(auto)]
 
 mod board;
+mod givers;
 mod lines;
+mod making;
 mod refs;
 mod room;
 mod settle;
