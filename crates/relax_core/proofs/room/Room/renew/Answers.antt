@@ -84,7 +84,7 @@ loop-port-preserved c =
 pub returns-clause-room : goal.returns-clause-room
 returns-clause-room c =
     let plan = c.args.plan.now in
-    let renewed : c.renew.new.outputs ≡ renewal_of plan c.args.unit c.loop-port.self.inputs = c.renew.ensures in
+    let renewed : c.renew.new.outputs ≡ renewal_of plan c.args.unit c.loop-port.self.inputs = c.renew.ensures.renewal in
     record {
       inputs = c.loop-port.invariant.0.opened;
       outputs = subst (HasRoomFor plan c.args.unit) (sym renewed)
@@ -96,7 +96,7 @@ pub returns-clause-renewed : goal.returns-clause-renewed
 returns-clause-renewed c =
     let plan = c.args.plan.now in
     let reads = (planned plan c.args.unit).reads in
-    let renewed : c.renew.new.outputs ≡ renewal_of plan c.args.unit c.loop-port.self.inputs = c.renew.ensures in
+    let renewed : c.renew.new.outputs ≡ renewal_of plan c.args.unit c.loop-port.self.inputs = c.renew.ensures.renewal in
     let all : length reads ≤ c.loop-port.port = omega (arith, c.loop-port-test.false, ap length c.reads-stream-items.ensures.reads) in
     renewed ∙ ap (renewal_of plan c.args.unit)
     (reading-whole plan c.args.lines.now c.requires.within reads c.args.versions.now c.requires.there c.loop-port.port
