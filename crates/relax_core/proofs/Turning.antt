@@ -11,13 +11,12 @@ use Rattle.plant_streams.specs.declared.streams.Stream.{Stream}
 use Rattle.plant_streams.specs.declared.streams.StreamSource.{StreamSource}
 use Rattle.plant_streams.specs.declared.streams.StreamSource.TheVariants as source
 use Rattle.plant_streams.specs.Streams.{streams_of}
-use Rattle.plant_units.specs.declared.units.Unit.{Unit}
-use Rattle.plant_units.specs.Units.{units_of, reads_of}
+use Rattle.plant_units.specs.Units.{units_of}
 use Rattle.plant.specs.PlantOf.{plant_of, origin_in}
 use Rattle.plant.proofs.Lookups.{at-map, origin-is, units-counted, streams-counted}
 use Rattle.renewal.specs.Plan.{PlanOf, IsPlan}
 use Rattle.renewal.specs.Room.{planned}
-use Rattle.renewal.proofs.Givers.{is-giver, some-giver, reads-are}
+use Rattle.renewal.proofs.Givers.{some-giver, reads-are}
 use Rattle.renewal.proofs.RoomShapes.{below-at}
 use Rattle.renewal.proofs.Windows.{is-open}
 use Rattle.relax_core.specs.Board.{BoardOf, IsBoard}
@@ -51,13 +50,6 @@ pub giver-reads : (plan : PlanOf) (s u : ℕ) → IsGivenBy (origin_of (plant_of
     reads_for plan s ≡ (planned plan u).reads
 giver-reads plan s u g =
     let found = giver (origin_of (plant_of plan.parts) s) u g in ap (reads_from plan) found.1
-
--- as it stands in the list of units
-pub reads-read : (plan seen : PlanOf) (parts : FileParts) (units : List Unit) (u : ℕ) (x : Unit) (reads : List ℕ) → IsPlan plan →
-    seen ≡ plan → parts ≡ seen.parts → units ≡ units_of parts → u < length (units_of plan.parts) → x ≡ get_or units u x →
-    reads ≡ reads_of x → reads ≡ (planned plan u).reads
-reads-read plan seen parts units u x reads h e f k l is r =
-    r ∙ sym (reads-are plan u x (is-giver plan u x units h l is (k ∙ ap units_of (f ∙ ap (λ (p : PlanOf). p.parts) e))))
 
 -- streams that are there
 pub reads-there : (plan : PlanOf) (u : ℕ) → IsPlan plan → u < length (units_of plan.parts) →

@@ -13,6 +13,7 @@ ghost use Rattle.relax_core.specs.Settling.{GoesOn};
 ghost use Rattle.relax_core.specs.Turns.{IsGivenBy, StepsThere, Turns, Sweeps};
 
 use crate::board::{Board, StepFault, Stepped};
+use crate::givers::reads;
 use plant::StreamSource;
 use renewal::WindowPlan;
 use std::alloc::{AllocError, Global};
@@ -52,11 +53,11 @@ impl<'p> Board<'p> {
         ensures count { result ≤ length numbers.new }
         ensures numbers { take result numbers.new ≡ last_numbers self.now.versions (planned self.now.plan unit).reads }
     {
-        let reads = self.plan().plant().units()[unit as usize].inputs();
-        for (port, stream) in reads.iter().enumerate() {
+        let streams = reads(self.plan(), unit);
+        for (port, stream) in streams.iter().enumerate() {
             numbers[port] = self.versions(*stream) - 1;
         }
-        reads.len()
+        streams.len()
     }
 
     /// Makes the step of a stream from the last versions of what its unit reads.
