@@ -59,7 +59,7 @@ module _ (window : Window) (is : IsOpen window) where
   ]
 
   -- so steps append at most as many as there are of the stream
-  steps-count : (state : Versions) (steps : List Step) → KeepsRun window is state → AreLegal window state steps → (s : ℕ) →
+  pub steps-count : (state : Versions) (steps : List Step) → KeepsRun window is state → AreLegal window state steps → (s : ℕ) →
       length (versions_of (replay window state steps) s) ≤ length (versions_of state s) + count_by (λ (step : Step). step.stream == s) steps
   steps-count state [] kept legal s = omega arith
   steps-count state (step ∷ steps) kept legal s =

@@ -1,0 +1,10 @@
+pub mod Boards
+pub mod Counts
+pub mod Meets
+pub mod Readings
+pub mod Renewals
+pub mod Rooms
+pub mod Settled
+pub mod Steps
+pub mod Sweeping
+pub mod Turning

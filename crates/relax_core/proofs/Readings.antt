@@ -1,0 +1,114 @@
+-- Named versions are read in port by port.
+use Rattle.std.proofs.Common.{◌≡◌, ◌∙◌, ℕ, zero, suc, ◌+◌, ◌<◌, ◌≤◌, List, [], ◌∷◌, length, map, slice_index_or, slice_index, refl, sym, ap, subst, arith, inl, inr, length-set, get_or-set_same, get_or-set_other}
+use Rattle.std.specs.Prelude.{slice_set}
+use Rattle.std.proofs.lemmas.Bool.{cases_eq, cases_lt}
+use Rattle.std.proofs.lemmas.List.{ext_get_or, get_or_past}
+use Rattle.quant.proofs.Calls.{inside-length, same_cons}
+use Rattle.relaxation.specs.Tube.{Tube, IsWithin}
+use Rattle.relaxation.specs.Core.{Versions, versions_of, version_at, named, AreThere}
+use Rattle.tubes.specs.Shape.{HasShapeOf}
+use Rattle.renewal.specs.Plan.{PlanOf, window_of}
+use Rattle.renewal.specs.Room.{AreOpened}
+use Rattle.renewal.proofs.Openings.{set-opened}
+use Rattle.relax_core.specs.Making.{AreVersionsWithin}
+
+-- tubes in one another have one shape
+pub within-shape : (A B : Tube) → IsWithin A B → HasShapeOf A B
+within-shape [] [] h = refl
+within-shape [] (B ∷ Bs) h = absurd h
+within-shape (A ∷ As) [] h = absurd h
+within-shape (A ∷ As) (B ∷ Bs) h = same_cons (length A) (length B) (map length As) (map length Bs) (inside-length A B h.0) (within-shape As Bs h.1)
+
+pub opened-counted : (plan : PlanOf) (streams : List ℕ) (tubes : List Tube) → AreOpened plan streams tubes → length tubes ≡ length streams
+opened-counted plan [] [] h = refl
+opened-counted plan [] (tube ∷ tubes) h = absurd h
+opened-counted plan (s ∷ streams) [] h = absurd h
+opened-counted plan (s ∷ streams) (tube ∷ tubes) h = ap suc (opened-counted plan streams tubes h.1)
+
+opened-at : (plan : PlanOf) (streams : List ℕ) (tubes : List Tube) (p : ℕ) → AreOpened plan streams tubes → p < length streams →
+    IsWithin (slice_index_or tubes p []) ((window_of plan).opening (slice_index streams p))
+opened-at plan [] tubes p h l = absurd (omega arith)
+opened-at plan (s ∷ streams) [] p h l = absurd h
+opened-at plan (s ∷ streams) (tube ∷ tubes) zero h l = h.0
+opened-at plan (s ∷ streams) (tube ∷ tubes) (suc p) h l = opened-at plan streams tubes p h.1 (omega arith)
+
+-- the versions that are there, port by port
+pub there-counted : (state : Versions) (reads numbers : List ℕ) → AreThere state reads numbers → length numbers ≡ length reads
+there-counted state [] [] h = refl
+there-counted state [] (k ∷ numbers) h = absurd h
+there-counted state (s ∷ reads) [] h = absurd h
+there-counted state (s ∷ reads) (k ∷ numbers) h = ap suc (there-counted state reads numbers h.1)
+
+pub there-at : (state : Versions) (reads numbers : List ℕ) (p : ℕ) → AreThere state reads numbers → p < length reads →
+    slice_index numbers p < length (versions_of state (slice_index reads p))
+there-at state [] numbers p h l = absurd (omega arith)
+there-at state (s ∷ reads) [] p h l = absurd h
+there-at state (s ∷ reads) (k ∷ numbers) zero h l = h.0
+there-at state (s ∷ reads) (k ∷ numbers) (suc p) h l = there-at state reads numbers p h.1 (omega arith)
+
+pub there-each : (state : Versions) (reads numbers : List ℕ) → length numbers ≡ length reads →
+    ((p : ℕ) → p < length reads → slice_index numbers p < length (versions_of state (slice_index reads p))) → AreThere state reads numbers
+there-each state [] [] e h = tt
+there-each state [] (k ∷ numbers) e h = absurd (omega arith)
+there-each state (s ∷ reads) [] e h = absurd (omega arith)
+there-each state (s ∷ reads) (k ∷ numbers) e h =
+    (h 0 (omega arith), there-each state reads numbers (omega arith) (λ p l. h (suc p) (omega arith)))
+
+named-counted : (state : Versions) (reads numbers : List ℕ) → length numbers ≡ length reads → length (named state reads numbers) ≡ length reads
+named-counted state [] numbers e = refl
+named-counted state (s ∷ reads) [] e = absurd (omega arith)
+named-counted state (s ∷ reads) (k ∷ numbers) e = ap suc (named-counted state reads numbers (omega arith))
+
+named-at : (state : Versions) (reads numbers : List ℕ) (p : ℕ) → length numbers ≡ length reads → p < length reads →
+    slice_index_or (named state reads numbers) p [] ≡ version_at state (slice_index reads p) (slice_index numbers p)
+named-at state [] numbers p e l = absurd (omega arith)
+named-at state (s ∷ reads) [] p e l = absurd (omega arith)
+named-at state (s ∷ reads) (k ∷ numbers) zero e l = refl
+named-at state (s ∷ reads) (k ∷ numbers) (suc p) e l = named-at state reads numbers p (omega arith) (omega arith)
+
+-- the versions at the ports below n are read in
+pub record IsReading (plan : PlanOf) (state : Versions) (reads numbers : List ℕ) (n : ℕ) (tubes : List Tube) : Type 0 where
+  pub opened : AreOpened plan reads tubes
+  pub read : (p : ℕ) → p < n → slice_index_or tubes p [] ≡ version_at state (slice_index reads p) (slice_index numbers p)
+
+pub reading-none : (plan : PlanOf) (state : Versions) (reads numbers : List ℕ) (tubes : List Tube) → AreOpened plan reads tubes →
+    IsReading plan state reads numbers 0 tubes
+reading-none plan state reads numbers tubes h = record { opened = h; read = λ p l. absurd (omega arith) }
+
+module _ (plan : PlanOf) (state : Versions) (within : AreVersionsWithin plan state) (reads numbers : List ℕ) (there : AreThere state reads numbers) where
+  -- one more fits, and is read in
+  pub reading-shape : (n : ℕ) (tubes : List Tube) → n < length reads → IsReading plan state reads numbers n tubes →
+      HasShapeOf (slice_index_or tubes n []) (version_at state (slice_index reads n) (slice_index numbers n))
+  reading-shape n tubes l r =
+      within-shape _ _ (opened-at plan reads tubes n r.opened l)
+      ∙ sym (within-shape _ _ (within (slice_index reads n) (slice_index numbers n) (there-at state reads numbers n there l)))
+
+  pub reading-more : (n : ℕ) (tubes : List Tube) → n < length reads → IsReading plan state reads numbers n tubes →
+      IsReading plan state reads numbers (n + 1)
+      (slice_set tubes n (version_at state (slice_index reads n) (slice_index numbers n)))
+  reading-more n tubes l r =
+      let tube : Tube = version_at state (slice_index reads n) (slice_index numbers n) in
+      record {
+        opened = set-opened plan reads tubes n tube r.opened l
+            (within (slice_index reads n) (slice_index numbers n) (there-at state reads numbers n there l));
+        read = λ p m. elim (cases_eq p n) [
+          | inl e ↦ subst (λ i. slice_index_or (slice_set tubes n tube) i [] ≡ version_at state (slice_index reads i) (slice_index numbers i)) (sym e)
+              (get_or-set_same tubes n tube [] (omega (arith, opened-counted plan reads tubes r.opened)))
+          | inr ne ↦ get_or-set_other tubes n p tube [] ne ∙ r.read p (omega arith)
+        ];
+      }
+
+  pub reading-whole : (n : ℕ) (tubes : List Tube) → length reads ≤ n → IsReading plan state reads numbers n tubes →
+      tubes ≡ named state reads numbers
+  reading-whole n tubes l r =
+      let counted : length tubes ≡ length reads = opened-counted plan reads tubes r.opened in
+      let numbered : length numbers ≡ length reads = there-counted state reads numbers there in
+      ext_get_or [] tubes (named state reads numbers) (counted ∙ sym (named-counted state reads numbers numbered))
+      (λ p m. r.read p (omega arith) ∙ sym (named-at state reads numbers p numbered (omega arith)))
+
+-- a stream with versions is there
+pub stream-there : (state : Versions) (s k : ℕ) → k < length (versions_of state s) → s < length state
+stream-there state s k l = elim (cases_lt s (length state)) [
+  | inl m ↦ m
+  | inr n ↦ (let none : versions_of state s ≡ [] = get_or_past state s [] n in absurd (omega (arith, ap length none)))
+]

@@ -1,0 +1,260 @@
+-- A board goes on by steps, and by the turn of one stream more in a sweep.
+use Rattle.std.proofs.Common.{◌≡◌, ◌∙◌, ℕ, zero, suc, ◌+◌, ◌≤◌, List, [], ◌∷◌, ◌++◌, length, map, refl, sym, ap, subst, arith, inl, inr, true, false, Contains, cond, eq-eqb, append_assoc, ◌≢◌}
+use Rattle.std.specs.Prelude.{Bool, Ok, count_by, ◌==◌}
+use Rattle.std.proofs.lemmas.Bool.{cases_Bool, cases_eq}
+use Rattle.std.proofs.lemmas.Bool.Decides.{nat_tests}
+use Rattle.std.proofs.lemmas.List.{map-append, append-nil}
+use Rattle.std.proofs.lemmas.List.Sums.{sum_by-append, sum_by-cons}
+use Rattle.std.proofs.lemmas.List.Elements.{Contains-append_left, Contains-append_cases, Contains-push}
+use Rattle.flowsheet.specs.Plant.{feed, port, unit_at, origin_of}
+use Rattle.flowsheet.proofs.Ranks.{source, from_feed, from_port}
+use Rattle.relaxation.specs.Window.{Window}
+use Rattle.relaxation.specs.Core.{Versions, Step, versions_of, IsLegal, is_idle, after_step, replay, narrowing, last_numbers, last_step, IsSettled}
+use Rattle.relaxation.specs.Sweep.{AreNewest, ReadsNewest}
+use Rattle.relaxation.proofs.Sequences.{after-idle, replay-append, legal-append, narrowing-append, narrowing-idle, narrowing-more, narrowing-replay, narrowing-legal, narrowing-narrowing}
+use Rattle.relaxation.proofs.Stays.{replay-stays}
+use Rattle.plant.specs.PlantOf.{plant_of}
+use Rattle.renewal.specs.Plan.{window_of}
+use Rattle.relax_core.specs.Board.{RowOf, BoardOf, rows_from}
+use Rattle.relax_core.specs.Settling.{after_steps, GoesOn}
+use Rattle.relax_core.specs.Turns.{Turns, TurnsFrom, IsSweeping}
+
+-- the rows of steps after others
+rows-append : (window : Window) (state : Versions) (steps more : List Step) →
+    rows_from window state (steps ++ more) ≡ rows_from window state steps ++ rows_from window (replay window state steps) more
+rows-append window state [] more = refl
+rows-append window state (step ∷ steps) more =
+    ap (λ (rows : List RowOf). record { stream = step.stream; version = length (versions_of state step.stream); refs = step.inputs } ∷ rows)
+    (rows-append window (after_step window state step) steps more)
+
+-- the narrowing steps of two lists
+narrowing-both : (window : Window) (state : Versions) (steps more : List Step) →
+    narrowing window state (steps ++ more) ≡ narrowing window state steps ++ narrowing window (replay window state steps) more
+narrowing-both window state [] more = refl
+narrowing-both window state (step ∷ steps) more = elim (cases_Bool (is_idle window state step)) [
+  | inl e ↦ narrowing-idle window state step (steps ++ more) e
+      ∙ narrowing-both window state steps more
+      ∙ ap (λ list. list ++ narrowing window (replay window state steps) more) (sym (narrowing-idle window state step steps e))
+      ∙ ap (λ x. narrowing window state (step ∷ steps) ++ narrowing window (replay window x steps) more) (sym (after-idle window state step e))
+  | inr e ↦ narrowing-more window state step (steps ++ more) e
+      ∙ ap (λ list. step ∷ list) (narrowing-both window (after_step window state step) steps more)
+      ∙ ap (λ list. list ++ narrowing window (replay window (after_step window state step) steps) more) (sym (narrowing-more window state step steps e))
+]
+
+-- the board after steps and more of them
+pub after-append : (board : BoardOf) (steps more : List Step) →
+    after_steps board (steps ++ more) ≡ after_steps (after_steps board steps) more
+after-append board steps more =
+    let window = window_of board.plan in
+    let made = λ (state : Versions) (rows : List RowOf). let b : BoardOf = record { plan = board.plan; versions = state; rows = rows } in b in
+    ap (λ state. made state (board.rows ++ rows_from window board.versions (steps ++ more))) (replay-append window board.versions steps more)
+    ∙ ap (λ rows. made (replay window (replay window board.versions steps) more) rows)
+    (ap (λ rows. board.rows ++ rows) (rows-append window board.versions steps more)
+    ∙ sym (append_assoc board.rows (rows_from window board.versions steps) (rows_from window (replay window board.versions steps) more)))
+
+-- a board goes on by none
+pub goes_nowhere : (board : BoardOf) → GoesOn board board
+goes_nowhere board = record {
+  steps = [];
+  legal = tt;
+  narrowing = tt;
+  leads = ap (λ (rows : List RowOf). let b : BoardOf = record { plan = board.plan; versions = board.versions; rows = rows } in b)
+      (sym (append-nil board.rows));
+}
+
+-- and by one list after another
+pub goes_further : (start board new : BoardOf) → GoesOn start board → GoesOn board new → GoesOn start new
+goes_further start board new h k =
+    let window = window_of start.plan in
+    let next : GoesOn (after_steps start h.steps) new = subst (λ x. GoesOn x new) h.leads k in
+    record {
+      steps = h.steps ++ next.steps;
+      legal = legal-append window start.versions h.steps next.steps h.legal next.legal;
+      narrowing = narrowing-append window start.versions h.steps next.steps h.narrowing next.narrowing;
+      leads = next.leads ∙ sym (after-append start h.steps next.steps);
+    }
+
+-- the numbers of the last versions after steps are those of the newest before them, or greater
+newest-last : (window : Window) (state : Versions) (steps : List Step) (streams : List ℕ) →
+    AreNewest state streams (last_numbers (replay window state steps) streams)
+newest-last window state steps [] = tt
+newest-last window state steps (s ∷ streams) =
+    let l : length (versions_of state s) ≤ length (versions_of (replay window state steps) s)
+    = (replay-stays window state steps s).longer in
+    (omega arith, newest-last window state steps streams)
+
+-- no stream has had its turn
+pub sweep-none : (start : BoardOf) → IsSweeping start 0 false start
+unfolding goes_nowhere
+sweep-none start = record {
+  steps = [];
+  legal = tt;
+  newest = λ step c. absurd (omega (arith, c.1));
+  once = λ s. omega arith;
+  below = λ s l. refl;
+  covers = λ s l. absurd (omega arith);
+  leads = (goes_nowhere start).leads;
+  none = λ e. refl;
+}
+
+-- a sweep goes on from where it began
+pub sweep-goes : (start : BoardOf) (n : ℕ) (narrows : Bool) (board : BoardOf) → IsSweeping start n narrows board → GoesOn start board
+sweep-goes start n narrows board h = record {
+  steps = narrowing (window_of start.plan) start.versions h.steps;
+  legal = narrowing-legal (window_of start.plan) start.versions h.steps h.legal;
+  narrowing = narrowing-narrowing (window_of start.plan) start.versions h.steps;
+  leads = h.leads;
+}
+
+-- its versions are what its steps leave
+pub sweep-leaves : (start : BoardOf) (n : ℕ) (narrows : Bool) (board : BoardOf) (h : IsSweeping start n narrows board) →
+    board.versions ≡ replay (window_of start.plan) start.versions h.steps
+sweep-leaves start n narrows board h =
+    ap (λ (b : BoardOf). b.versions) h.leads ∙ narrowing-replay (window_of start.plan) start.versions h.steps
+
+-- it may be said that it narrowed
+sweep-flag : (start : BoardOf) (n : ℕ) (narrows said : Bool) (board : BoardOf) → IsSweeping start n narrows board →
+    (said ≡ false → narrows ≡ false) → IsSweeping start n said board
+sweep-flag start n narrows said board h k = record {
+  steps = h.steps;
+  legal = h.legal;
+  newest = h.newest;
+  once = h.once;
+  below = h.below;
+  covers = h.covers;
+  leads = h.leads;
+  none = λ e. h.none (k e);
+}
+
+pub sweep-some : (start : BoardOf) (n : ℕ) (narrows : Bool) (board : BoardOf) → IsSweeping start n narrows board →
+    IsSweeping start n true board
+sweep-some start n narrows board h = sweep-flag start n narrows true board h (λ e. cc)
+
+-- the turn of a feed changes nothing
+sweep-fed : (start board : BoardOf) (n f : ℕ) (narrows : Bool) → IsSweeping start n narrows board →
+    origin_of (plant_of start.plan.parts) n ≡ feed f → IsSweeping start (n + 1) narrows board
+sweep-fed start board n f narrows h o = record {
+  steps = h.steps;
+  legal = h.legal;
+  newest = h.newest;
+  once = h.once;
+  below = λ s l. h.below s (omega arith);
+  covers = λ s l. elim (cases_eq s n) [
+    | inl e ↦ inr (subst (λ i. IsSettled (window_of start.plan) start.versions i (origin_of (plant_of start.plan.parts) i)) (sym e)
+        (subst (IsSettled (window_of start.plan) start.versions n) (sym o) tt))
+    | inr ne ↦ h.covers s (omega arith)
+  ];
+  leads = h.leads;
+  none = h.none;
+}
+
+-- the only one
+only_there : (x y : Step) → Contains (x ∷ []) y → x ≡ y
+only_there x y (zero, l, e) = e
+only_there x y (suc k, l, e) = absurd (omega arith)
+
+-- one for the stream itself, and none for another
+abbrev marks : ℕ → ℕ → ℕ
+marks n s = cond (n == s) 1 0
+
+marks-itself : (n : ℕ) → marks n n ≡ 1
+marks-itself n = rw (eq-eqb n n refl) refl
+
+marks-other : (n s : ℕ) → s ≢ n → marks n s ≡ 0
+marks-other n s ne = grind (arith, nat_tests)
+
+-- that of another adds its step
+module _ (start board : BoardOf) (n u p : ℕ) (o : origin_of (plant_of start.plan.parts) n ≡ port u p) (before : Bool)
+    (h : IsSweeping start n before board) where
+  abbrev window : Window
+  window = window_of start.plan
+
+  abbrev last : Step
+  last = last_step window (replay window start.versions h.steps) u n
+
+  sweep-counts : (s : ℕ) → count_by (λ (step : Step). step.stream == s) (h.steps ++ last ∷ [])
+      ≡ count_by (λ (step : Step). step.stream == s) h.steps + marks n s
+  sweep-counts s =
+      let counts = λ (step : Step). marks step.stream s in
+      omega (arith, sum_by-append counts h.steps (last ∷ []), sum_by-cons counts last [])
+
+  last-newest : ReadsNewest window start.versions last.inputs (origin_of (plant_of start.plan.parts) n)
+  last-newest = subst (ReadsNewest window start.versions last.inputs) (sym o)
+      (newest-last window start.versions h.steps (unit_at window.plant u).reads)
+
+  sweep-step : (new : BoardOf) (narrows : Bool) → IsLegal window (replay window start.versions h.steps) last →
+      new ≡ after_steps start (narrowing window start.versions (h.steps ++ last ∷ [])) →
+      (narrows ≡ false → narrowing window start.versions (h.steps ++ last ∷ []) ≡ []) → IsSweeping start (n + 1) narrows new
+  sweep-step new narrows legal leads none = record {
+    steps = h.steps ++ last ∷ [];
+    legal = legal-append window start.versions h.steps (last ∷ []) h.legal (legal, tt);
+    newest = λ step c. elim (Contains-append_cases h.steps (last ∷ []) step c) [
+      | inl d ↦ h.newest step d
+      | inr d ↦ subst (λ x. ReadsNewest window start.versions x.inputs (origin_of (plant_of start.plan.parts) x.stream))
+          (only_there last step d) last-newest
+    ];
+    once = λ s. elim (cases_eq s n) [
+      | inl e ↦ omega (arith, sweep-counts s, h.below s (omega arith), ap (marks n) e, marks-itself n)
+      | inr ne ↦ omega (arith, sweep-counts s, h.once s, marks-other n s ne)
+    ];
+    below = λ s l. omega (arith, sweep-counts s, h.below s (omega arith), marks-other n s (λ e. omega arith));
+    covers = λ s l. elim (cases_eq s n) [
+      | inl e ↦ inl (subst (Contains (map (λ (step : Step). step.stream) (h.steps ++ last ∷ []))) (sym e)
+          (subst (λ list. Contains list n) (sym (map-append (λ (step : Step). step.stream) h.steps (last ∷ [])))
+          (Contains-push (map (λ (step : Step). step.stream) h.steps) n)))
+      | inr ne ↦ elim (h.covers s (omega arith)) [
+        | inl c ↦ inl (subst (λ list. Contains list s) (sym (map-append (λ (step : Step). step.stream) h.steps (last ∷ [])))
+            (Contains-append_left (map (λ (step : Step). step.stream) h.steps) (n ∷ []) s c))
+        | inr settled ↦ inr settled
+      ]
+    ];
+    leads = leads;
+    none = none;
+  }
+
+  -- which is among the narrowing ones where it narrows
+  narrowing-idles : is_idle window (replay window start.versions h.steps) last ≡ true →
+      narrowing window start.versions (h.steps ++ last ∷ []) ≡ narrowing window start.versions h.steps
+  narrowing-idles e = narrowing-both window start.versions h.steps (last ∷ [])
+      ∙ ap (λ more. narrowing window start.versions h.steps ++ more) (narrowing-idle window (replay window start.versions h.steps) last [] e)
+      ∙ append-nil (narrowing window start.versions h.steps)
+
+  narrowing-narrows : is_idle window (replay window start.versions h.steps) last ≡ false →
+      narrowing window start.versions (h.steps ++ last ∷ []) ≡ narrowing window start.versions h.steps ++ last ∷ []
+  narrowing-narrows e = narrowing-both window start.versions h.steps (last ∷ [])
+      ∙ ap (λ more. narrowing window start.versions h.steps ++ more) (narrowing-more window (replay window start.versions h.steps) last [] e)
+
+  turn-given : (E : Type 0) (narrows : Bool) (new : BoardOf) →
+      TurnsFrom {E = E} (Ok narrows) (after_steps start (narrowing window start.versions h.steps)) n (port u p) new →
+      (said : Bool) → (said ≡ false → (before ≡ false) × (narrows ≡ false)) → IsSweeping start (n + 1) said new
+  turn-given E true new t said k =
+      let same = narrowing-replay window start.versions h.steps in
+      let from = λ (state : Versions). last_step window state u n in
+      sweep-step new said (subst (λ state. IsLegal window state (from state)) same t.0)
+      (t.2 ∙ sym (after-append start (narrowing window start.versions h.steps) (from (replay window start.versions (narrowing window start.versions h.steps)) ∷ []))
+      ∙ ap (λ state. after_steps start (narrowing window start.versions h.steps ++ from state ∷ [])) same
+      ∙ ap (after_steps start) (sym (narrowing-narrows (subst (λ state. is_idle window state (from state) ≡ false) same t.1))))
+      (λ e. absurd (let f = (k e).1 in let g : ⊥ = cc in g))
+  turn-given E false new t said k =
+      let same = narrowing-replay window start.versions h.steps in
+      let from = λ (state : Versions). last_step window state u n in
+      let idle = narrowing-idles (subst (λ state. is_idle window state (from state) ≡ true) same t.1) in
+      sweep-step new said (subst (λ state. IsLegal window state (from state)) same t.0)
+      (t.2 ∙ ap (after_steps start) (sym idle))
+      (λ e. idle ∙ h.none (k e).0)
+
+-- and the turn of any goes on with the sweep
+pub sweep-turn : (E : Type 0) (start board new : BoardOf) (n : ℕ) (before narrows said : Bool) → IsSweeping start n before board →
+    Turns {E = E} (Ok narrows) board n new → (said ≡ false → (before ≡ false) × (narrows ≡ false)) → IsSweeping start (n + 1) said new
+sweep-turn E start board new n before narrows said h turn k =
+    let window = window_of start.plan in
+    let here = after_steps start (narrowing window start.versions h.steps) in
+    let turned : Turns {E = E} (Ok narrows) here n new = subst (λ b. Turns {E = E} (Ok narrows) b n new) h.leads turn in
+    elim (source (origin_of (plant_of start.plan.parts) n)) [
+      | from_feed f o ↦
+          (let fed : TurnsFrom {E = E} (Ok narrows) here n (feed f) new = subst (λ from. TurnsFrom {E = E} (Ok narrows) here n from new) o turned in
+          sweep-flag start (n + 1) before said new
+          (subst (IsSweeping start (n + 1) before) (h.leads ∙ sym fed.1) (sweep-fed start board n f before h o)) (λ e. (k e).0))
+      | from_port u p o ↦ turn-given start board n u p o before h E narrows new
+          (subst (λ from. TurnsFrom {E = E} (Ok narrows) here n from new) o turned) said k
+    ]

@@ -1,0 +1,20 @@
+-- The board before any step.
+use Rattle.std.proofs.Common.{◌<◌, ◌^◌, length, sym, subst}
+use Rattle.relaxation.specs.Core.{versions_of}
+use Rattle.relax_core.specs.Board.{BoardOf, IsBoard}
+use Rattle.relax_core.proofs.Boards.{opening-is, opening-seen}
+use Rattle.relax_core.proofs.Rooms.{opening-few}
+use Rattle.relax_core.proofs.board.Board.open.Goals as goal
+
+pub invariant_of-result : goal.invariant_of-result
+invariant_of-result c =
+    let plan = c.args.plan.now in
+    let seen = opening-seen plan _ _ c.in_ok-lines.ensures c.new.ensures.items in
+    record {
+      steps = subst IsBoard (sym seen) (opening-is plan c.rooms_of.ensures.plan);
+      few = λ s. subst (λ (board : BoardOf). length (versions_of board.versions s) < 2 ^ 32) (sym seen) (opening-few plan s);
+      rooms = c.in_ok-rooms.ensures.rooms;
+    }
+
+pub returns : goal.returns
+returns c = opening-seen c.args.plan.now _ _ c.in_ok-lines.ensures c.new.ensures.items

@@ -1,0 +1,49 @@
+-- There are few streams, and each has its opening tube.
+use Rattle.std.proofs.Common.{◌≡◌, ◌∙◌, ℕ, [], ◌∷◌, ◌++◌, List, length, map, sym, ap, arith}
+use Rattle.std.specs.List.{range_with_len}
+use Rattle.std.proofs.lemmas.List.FromFn.{map-range_with_len_more}
+use Rattle.parts.specs.Parts.{FileParts}
+use Rattle.relaxation.specs.Tube.{Tube}
+use Rattle.plant_streams.specs.Streams.{streams_of}
+use Rattle.plant.proofs.Lookups.{streams-counted}
+use Rattle.renewal.specs.Plan.{window_of}
+use Rattle.relax_core.proofs.Counts.{streams-few}
+use Rattle.relax_core.proofs.lines.Lines.open.Goals as goal
+
+pub overflow_cast-stream : goal.overflow_cast-stream
+overflow_cast-stream c = omega (
+  arith,
+  c.loop-stream-test.true,
+  ap length c.streams-stream-end.ensures,
+  ap (λ (parts : FileParts). length (streams_of parts)) c.plant.ensures.plant,
+  streams-few c.args.plan.now c.plant.ensures.plan,
+)
+
+pub open-requires : goal.open-requires
+open-requires c = omega (
+  arith,
+  c.loop-stream-test.true,
+  ap length c.streams-stream-end.ensures,
+  ap (λ (parts : FileParts). length (streams_of parts)) c.plant.ensures.plant,
+)
+
+pub loop-stream-preserved : goal.loop-stream-preserved
+loop-stream-preserved c =
+    let opening = λ (s : ℕ). (window_of c.args.plan.now).opening s ∷ [] in
+    let n = c.loop-stream.stream in
+    c.in_ok-push.ensures.items
+    ∙ ap (λ (lines : List (List Tube)). lines ++ c.in_ok-open.field-0 ∷ []) c.loop-stream.invariant
+    ∙ ap (λ (line : List Tube). map opening (range_with_len 0 n) ++ line ∷ []) c.in_ok-open.ensures
+    ∙ sym (map-range_with_len_more opening 0 n n (omega arith))
+
+pub returns : goal.returns
+returns c =
+    let plan = c.args.plan.now in
+    let all : c.loop-stream.stream ≡ length (streams_of plan.parts) = omega (
+      arith,
+      c.loop-stream-test.false,
+      ap length c.streams-stream-end.ensures,
+      ap (λ (parts : FileParts). length (streams_of parts)) c.plant.ensures.plant,
+    ) in
+    c.loop-stream.invariant
+    ∙ ap (λ (n : ℕ). map (λ (s : ℕ). (window_of plan).opening s ∷ []) (range_with_len 0 n)) (all ∙ sym (streams-counted plan.parts))

@@ -1,0 +1,6 @@
+pub mod Board
+pub mod Making
+pub mod Rooms
+pub mod Settling
+pub mod Stepping
+pub mod Turns

@@ -1,0 +1,20 @@
+-- A board goes on by steps that narrow.
+use Rattle.std.specs.Prelude.{◌≡◌, ◌++◌, List}
+use Rattle.relaxation.specs.Core.{Step, replay, AreLegal, AreNarrowing}
+use Rattle.renewal.specs.Plan.{window_of}
+use Rattle.relax_core.specs.Board.{BoardOf, rows_from}
+
+-- the board after these steps, each of which narrows
+abbrev pub after_steps : BoardOf → List Step → BoardOf
+after_steps board steps = record {
+  plan = board.plan;
+  versions = replay (window_of board.plan) board.versions steps;
+  rows = board.rows ++ rows_from (window_of board.plan) board.versions steps;
+}
+
+-- The plan is the same, and some steps, legal and narrowing from the old versions, lead to the new board.
+pub record GoesOn (old new : BoardOf) : Type 0 where
+  pub steps : List Step
+  pub legal : AreLegal (window_of old.plan) old.versions steps
+  pub narrowing : AreNarrowing (window_of old.plan) old.versions steps
+  pub leads : new ≡ after_steps old steps

@@ -1,0 +1,165 @@
+ghost use Rattle.std.specs.Prelude.{◌≡◌, ◌<◌, length, slice_index_or, IfOk};
+ghost use Rattle.plant_streams.specs.Streams.{streams_of};
+ghost use Rattle.plant.specs.PlantOf.{plant_of};
+ghost use Rattle.flowsheet.specs.Plant.{origin_of};
+ghost use Rattle.relaxation.specs.Core.{versions_of, last_of};
+ghost use Rattle.relax_core.specs.Board.{opening_board};
+ghost use Rattle.relax_core.specs.Rooms.{HasRooms};
+ghost use Rattle.renewal.specs.Plan.{IsPlan};
+ghost use Rattle.relax_core.specs.Stepping.{reads_for, IsOutputOf, Steps};
+
+use crate::givers::{giver, reads};
+use crate::lines::Lines;
+use crate::making::{append, first_missing};
+use crate::refs::Refs;
+use crate::room::Room;
+use renewal::WindowPlan;
+use std::alloc::{AllocError, Global};
+use std::marker::Model;
+use tubes::Tube;
+
+/// What a step did.
+#[derive(Clone, Copy, Debug, PartialEq, Eq)]
+pub enum Stepped {
+    /// Its stream has a narrower version with this number.
+    Narrowed { number: u32 },
+    /// It would narrow nothing.
+    Same,
+}
+
+/// Why a step was not made.
+#[derive(Clone, Copy, Debug, PartialEq, Eq)]
+pub enum StepFault {
+    /// At this input port a version was wanted that is not among the `have` that are there.
+    NoSuchVersion { input: u32, wanted: u32, have: u32 },
+    NoMemory,
+}
+
+impl From<AllocError> for StepFault {
+    ghost use Rattle.std.specs.Prelude.{◌≡◌};
+    ghost use Rattle.relax_core.specs.declared.board.StepFault.TheVariants.{NoMemory};
+
+    ghost from_gives = { λ _ fault. fault ≡ NoMemory };
+
+    fn from(_error: AllocError) -> StepFault {
+        StepFault::NoMemory
+    }
+}
+
+/// A step that narrowed a stream: the version that it appended, and those that it read.
+#[derive(Debug, Drop)]
+pub struct StepRow {
+    pub stream: u32,
+    pub version: u32,
+    pub refs: Refs,
+}
+
+impl Model for StepRow {
+    ghost use Rattle.relax_core.specs.Board.{RowOf};
+
+    ghost Value = { RowOf };
+
+    ghost view = { λ row. record { stream = row.stream; version = row.version; refs = row.refs } };
+}
+
+/// The versions of each stream of a window, and the steps that made them.
+#[derive(Drop)]
+pub struct Board<'p> {
+    pub(crate) plan: &'p WindowPlan<'p>,
+    lines: Lines,
+    rows: Vec<StepRow>,
+    /// For each unit.
+    rooms: Vec<Room>,
+}
+
+impl<'p> Model for Board<'p> {
+    ghost use Rattle.relax_core.specs.Board.{BoardOf};
+    ghost use Rattle.relax_core.specs.Rooms.{IsKept};
+
+    ghost Value = { BoardOf };
+
+    ghost view = { λ board. record { plan = board.plan.now; versions = board.lines; rows = board.rows.items } };
+
+    ghost invariant = { λ board. IsKept
+        (record { plan = board.plan.now; versions = board.lines; rows = board.rows.items }) board.rooms.items };
+}
+
+/// Room for each unit of a plan.
+fn rooms_of(alloc: Global, plan: &WindowPlan<'_>) -> Result<Vec<Room>, AllocError>
+    ensures plan { IsPlan plan.now }
+    ensures rooms { IfOk result (λ rooms. HasRooms plan.now rooms.items) }
+{
+    let mut rooms = Vec::new(alloc);
+    for unit in 0..plan.plant().units().len() {
+        rooms.push(Room::new(alloc, plan, unit as u32)?)?;
+    }
+    Ok(rooms)
+}
+
+impl<'p> Board<'p> {
+    /// A board on which each stream has its opening tube as version 0.
+    pub fn open(alloc: Global, plan: &'p WindowPlan<'p>) -> Result<Self, AllocError>
+        ensures { IfOk result (λ board. board ≡ opening_board plan.now) }
+    {
+        let lines = Lines::open(alloc, plan)?;
+        let rooms = rooms_of(alloc, plan)?;
+        Ok(Board {
+            plan,
+            lines,
+            rows: Vec::new(alloc),
+            rooms,
+        })
+    }
+
+    /// How many versions of a stream there are.
+    pub fn versions(&self, stream: u32) -> u32
+        requires { stream < length (streams_of self.now.plan.parts) }
+        ensures { result ≡ length (versions_of self.now.versions stream) }
+    {
+        self.lines.count(stream) as u32
+    }
+
+    /// The last version of a stream.
+    pub fn last(&self, stream: u32) -> &Tube
+        requires { stream < length (streams_of self.now.plan.parts) }
+        ensures { result.now ≡ last_of self.now.versions stream }
+    {
+        self.lines.last(stream)
+    }
+
+    /// The steps that narrowed so far.
+    pub fn rows(&self) -> &[StepRow]
+        ensures { result.now ≡ self.now.rows }
+    {
+        self.rows.as_slice()
+    }
+
+    /// Renews a stream from the versions with these numbers of what its unit reads, and appends the meet with its last
+    /// version where that is narrower.
+    pub fn step(
+        &mut self,
+        alloc: Global,
+        stream: u32,
+        versions: &[u32],
+    ) -> Result<Stepped, StepFault>
+        requires stream { stream < length (streams_of self.old.plan.parts) }
+        requires given { IsOutputOf (origin_of (plant_of self.old.plan.parts) stream) }
+        requires counted { length versions.now ≡ length (reads_for self.old.plan stream) }
+        ensures { Steps result self.old (record { stream = stream; inputs = versions.now }) self.new }
+    {
+        let (unit, port) = giver(self.plan, stream);
+        if let Some(fault) = first_missing(&self.lines, reads(self.plan, unit), versions) {
+            return Err(fault);
+        }
+        let room = &mut self.rooms[unit as usize];
+        room.renew(self.plan, unit, &self.lines, versions);
+        append(
+            alloc,
+            &mut self.lines,
+            &mut self.rows,
+            stream,
+            room.outputs.port(port),
+            versions,
+        )
+    }
+}

@@ -1,0 +1,41 @@
+//! The unit that gives a stream, and the streams that a unit reads.
+
+ghost use Rattle.std.specs.Prelude.{◌≡◌, ◌<◌, ◌≤◌, length};
+ghost use Rattle.std.specs.List.{AllByRecursion};
+ghost use Rattle.flowsheet.specs.Plant.{Origin, port, origin_of};
+ghost use Rattle.plant_streams.specs.Streams.{streams_of};
+ghost use Rattle.plant_units.specs.Units.{units_of};
+ghost use Rattle.plant.specs.PlantOf.{plant_of};
+ghost use Rattle.renewal.specs.Plan.{IsPlan};
+ghost use Rattle.renewal.specs.Room.{planned};
+ghost use Rattle.relax_core.specs.Stepping.{IsOutputOf};
+
+use plant::StreamSource;
+use renewal::WindowPlan;
+
+/// The unit that gives a stream, and the number of the output.
+pub(crate) fn giver(plan: &WindowPlan<'_>, stream: u32) -> (u32, u32)
+    requires stream { stream < length (streams_of plan.now.parts) }
+    requires given { IsOutputOf (origin_of (plant_of plan.now.parts) stream) }
+    ensures plan { IsPlan plan.now }
+    ensures giver { origin_of (plant_of plan.now.parts) stream ≡ port result.0 result.1 }
+    ensures unit { result.0 < length (units_of plan.now.parts) }
+    ensures output { result.1 < length (planned plan.now result.0).view }
+{
+    let stream = &plan.plant().streams()[stream as usize];
+    match stream.source {
+        StreamSource::Port { unit, port } => (unit, port),
+        StreamSource::Feed { .. } => unreachable!(),
+    }
+}
+
+/// The streams that a unit reads.
+pub(crate) fn reads<'p>(plan: &WindowPlan<'p>, unit: u32) -> &'p [u32]
+    requires { unit < length (units_of plan.now.parts) }
+    ensures plan { IsPlan plan.now }
+    ensures reads { result.now ≡ (planned plan.now unit).reads }
+    ensures few { length result.now ≤ 8 }
+    ensures streams { AllByRecursion (λ s. s < length (streams_of plan.now.parts)) result.now }
+{
+    plan.plant().units()[unit as usize].inputs()
+}

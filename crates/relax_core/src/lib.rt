@@ -1,0 +1,13 @@
+//! A board of one window: the versions of each stream, and steps that narrow one stream by one renewal.
+#![tactic(auto)]
+
+mod board;
+mod givers;
+mod lines;
+mod making;
+mod refs;
+mod room;
+mod settle;
+
+pub use board::{Board, StepFault, StepRow, Stepped};
+pub use refs::Refs;

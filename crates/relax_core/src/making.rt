@@ -1,0 +1,83 @@
+//! The parts of which a step on a board is made.
+
+ghost use Rattle.std.specs.Prelude.{◌≡◌, ◌<◌, ◌≤◌, ◌^◌, ℕ, length, IfOk};
+ghost use Rattle.std.specs.List.{AllByRecursion};
+ghost use Rattle.relaxation.specs.Tube.{HasNumbers, meet};
+ghost use Rattle.relaxation.specs.Core.{versions_of, last_of};
+ghost use Rattle.tubes.specs.Shape.{HasShapeOf};
+ghost use Rattle.relax_core.specs.Making.{FindsMissing, Appends};
+
+use crate::board::{StepFault, StepRow, Stepped};
+use crate::lines::Lines;
+use crate::refs::Refs;
+use std::alloc::{AllocError, Global};
+use tubes::Tube;
+
+/// The first input port at which the named version is not there.
+pub(crate) fn first_missing(lines: &Lines, reads: &[u32], versions: &[u32]) -> Option<StepFault>
+    requires counted { length versions.now ≡ length reads.now }
+    requires few_reads { length reads.now ≤ 8 }
+    requires streams { AllByRecursion (λ s. s < length lines.now) reads.now }
+    requires few { (s : ℕ) → length (versions_of lines.now s) < 2 ^ 32 }
+    ensures { FindsMissing result lines.now reads.now versions.now }
+{
+    for (input, stream) in reads.iter().enumerate() {
+        let wanted = versions[input];
+        let have = lines.count(*stream) as u32;
+        if have <= wanted {
+            let input = input as u32;
+            return Some(StepFault::NoSuchVersion {
+                input,
+                wanted,
+                have,
+            });
+        }
+    }
+    None
+}
+
+/// The meet of a tube with another, in memory of its own.
+fn met(alloc: Global, tube: &Tube, other: &Tube) -> Result<Tube, AllocError>
+    requires shape { HasShapeOf tube.now other.now }
+    requires numbers { HasNumbers (meet tube.now other.now) }
+    ensures { IfOk result (λ made. made ≡ meet tube.now other.now) }
+{
+    let mut made = tube.copied(alloc)?;
+    let _met = made.meet_into(other);
+    Ok(made)
+}
+
+/// Appends the meet of a stream's last version with its renewal, and the row of the step, where that is narrower.
+pub(crate) fn append(
+    alloc: Global,
+    lines: &mut Lines,
+    rows: &mut Vec<StepRow>,
+    stream: u32,
+    renewal: &Tube,
+    versions: &[u32],
+) -> Result<Stepped, StepFault>
+    requires stream { stream < length lines.old }
+    requires some { 0 < length (versions_of lines.old stream) }
+    requires few { length (versions_of lines.old stream) < 2 ^ 32 }
+    requires shape { HasShapeOf (last_of lines.old stream) renewal.now }
+    requires numbers { HasNumbers (meet (last_of lines.old stream) renewal.now) }
+    requires refs { length versions.now ≤ 8 }
+    ensures { Appends result stream renewal.now versions.now lines.old rows.old.items lines.new rows.new.items }
+{
+    if lines.last(stream).inside(renewal) {
+        return Ok(Stepped::Same);
+    }
+    let number = lines.count(stream) as u32;
+    if number == u32::MAX {
+        return Err(StepFault::NoMemory);
+    }
+    let tube = met(alloc, lines.last(stream), renewal)?;
+    rows.reserve(1)?;
+    lines.append(stream, tube)?;
+    rows.push_reserved(StepRow {
+        stream,
+        version: number,
+        refs: Refs::of(versions),
+    });
+    Ok(Stepped::Narrowed { number })
+}
