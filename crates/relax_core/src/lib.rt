@@ -3,10 +3,12 @@
 
 mod board;
 mod givers;
+mod laws;
 mod lines;
 mod making;
 mod refs;
 mod room;
 
 pub use board::{Board, StepFault, StepRow, Stepped};
+pub use laws::{boards_have_versions, steps_keep_boards};
 pub use refs::Refs;
