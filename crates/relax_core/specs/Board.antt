@@ -13,7 +13,7 @@ pub record RowOf : Type 0 where
 abbrev pub step_in : RowOf → Step
 step_in row = record { stream = row.stream; inputs = row.refs }
 
--- the rows of steps from these versions, each with the number of the version that it appends
+-- the rows of steps from these versions, each of which narrows: with the number of the version that it appends
 abbrev pub rows_from : Window → Versions → List Step → List RowOf
 rows_from window state [] = []
 rows_from window state (step ∷ steps) =
@@ -43,7 +43,7 @@ pub record IsBoard (board : BoardOf) : Type 0 where
 abbrev pub opening_board : PlanOf → BoardOf
 opening_board plan = record { plan = plan; versions = opened plan; rows = [] }
 
--- the board after a step
+-- the board after a step that narrows
 abbrev pub after : BoardOf → Step → BoardOf
 after board step = record {
   plan = board.plan;

@@ -1,4 +1,5 @@
--- Room for the renewals of each unit of a plan. A reader of the board's contracts needs none of these words.
+-- Words of the proofs: a reader of the contracts needs none of them.
+-- Room for the renewals of each unit of a plan.
 use Rattle.std.specs.Prelude.{◌≡◌, ◌<◌, ◌^◌, ℕ, List, [], length, slice_index_or}
 use Rattle.relaxation.specs.Core.{versions_of}
 use Rattle.plant_units.specs.Units.{units_of}

@@ -1,3 +1,4 @@
+-- Words of the proofs: a reader of the contracts needs none of them.
 -- Words of the contracts of the private functions that settle a board: the turn of a stream, and a sweep.
 use Rattle.std.specs.Prelude.{◌≡◌, ◌⊎◌, ◌<◌, ◌≤◌, ℕ, Bool, true, false, List, [], length, map, Contains, count_by, ◌==◌, Result, Ok, Err}
 use Rattle.flowsheet.specs.Plant.{Origin, feed, port, origin_of}

@@ -16,6 +16,7 @@ use crate::room::Room;
 use renewal::WindowPlan;
 use std::alloc::{AllocError, Global};
 use std::marker::Model;
+use thiserror::Error;
 use tubes::Tube;
 
 /// What a step did.
@@ -28,10 +29,12 @@ pub enum Stepped {
 }
 
 /// Why a step was not made.
-#[derive(Clone, Copy, Debug, PartialEq, Eq)]
+#[derive(Clone, Copy, Debug, PartialEq, Eq, Error)]
 pub enum StepFault {
-    /// At this input port a version was wanted that is not among the `have` that are there.
+    /// The first input port at which a version is wanted that is not among the `have` that are there.
+    #[error("input {input} wants version {wanted} of {have}")]
     NoSuchVersion { input: u32, wanted: u32, have: u32 },
+    #[error("want of memory")]
     NoMemory,
 }
 

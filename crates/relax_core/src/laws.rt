@@ -1,7 +1,7 @@
-ghost use Rattle.std.specs.Prelude.{◌≡◌, ◌<◌, ℕ, false, length};
-ghost use Rattle.relaxation.specs.Tube.{IsWithin};
-ghost use Rattle.relaxation.specs.Window.{Window};
-ghost use Rattle.relaxation.specs.Core.{Step, versions_of, version_at, IsLegal, is_idle};
+ghost use Rattle.std.specs.Prelude.{◌≡◌, ◌↔◌, ◌<◌, ◌+◌, ℕ, true, false, length};
+ghost use Rattle.relaxation.specs.Tube.{IsWithin, IsNarrower, HasNumbers, meet};
+ghost use Rattle.relaxation.specs.Window.{Window, run_tube};
+ghost use Rattle.relaxation.specs.Core.{Step, versions_of, version_at, last_of, step_renewal, IsLegal, is_idle, IsQuiet};
 ghost use Rattle.plant_streams.specs.Streams.{streams_of};
 ghost use Rattle.renewal.specs.Plan.{PlanOf, window_of, IsPlan};
 ghost use Rattle.relax_core.specs.Board.{BoardOf, IsBoard, opening_board, after};
@@ -16,6 +16,29 @@ pub fn boards_have_versions()
         version_at board.versions s 0 ≡ (window_of board.plan).opening s }
     ensures within { (board : BoardOf) (s k : ℕ) → IsBoard board → k < length (versions_of board.versions s) →
         IsWithin (version_at board.versions s k) ((window_of board.plan).opening s) }
+{}
+
+/// Each version on a board holds the run, and is strictly narrower than the one before. A step appends a meet with a number
+/// at each place, and nothing exactly where the meet is the last version. The last versions of a quiet board are the run.
+pub fn boards_keep_the_run()
+    ensures holds { (board : BoardOf) (s k : ℕ) → IsBoard board → s < length (streams_of board.plan.parts) →
+        k < length (versions_of board.versions s) →
+        IsWithin (run_tube (window_of board.plan) s) (version_at board.versions s k) }
+    ensures narrower { (board : BoardOf) (s k : ℕ) → IsBoard board → s < length (streams_of board.plan.parts) →
+        k + 1 < length (versions_of board.versions s) →
+        IsNarrower (version_at board.versions s (k + 1)) (version_at board.versions s k) }
+    ensures meets { (board : BoardOf) (step : Step) → IsBoard board →
+        IsLegal (window_of board.plan) board.versions step →
+        HasNumbers (meet (last_of board.versions step.stream)
+        (step_renewal (window_of board.plan) board.versions step)) }
+    ensures same { (board : BoardOf) (step : Step) → IsBoard board →
+        IsLegal (window_of board.plan) board.versions step →
+        (is_idle (window_of board.plan) board.versions step ≡ true)
+        ↔ (meet (last_of board.versions step.stream) (step_renewal (window_of board.plan) board.versions step)
+        ≡ last_of board.versions step.stream) }
+    ensures quiet { (board : BoardOf) (s : ℕ) → IsBoard board → s < length (streams_of board.plan.parts) →
+        IsQuiet (window_of board.plan) board.versions →
+        last_of board.versions s ≡ run_tube (window_of board.plan) s }
 {}
 
 /// There is a board before any step, and after each legal step that narrows its stream.

@@ -8,13 +8,13 @@ pub struct Refs {
 }
 
 impl Model for Refs {
-    ghost use Rattle.std.specs.Prelude.{List, ℕ, ◌≤◌, take};
+    ghost use Rattle.std.specs.Prelude.{List, ℕ, ◌≤◌, ◌≡◌, ◌-◌, take, drop, replicate};
 
     ghost Value = { List ℕ };
 
     ghost view = { λ refs. take refs.count refs.numbers };
 
-    ghost invariant = { λ refs. refs.count ≤ 8 };
+    ghost invariant = { λ refs. (refs.count ≤ 8) × (drop refs.count refs.numbers ≡ replicate (8 - refs.count) 0) };
 }
 
 impl Refs {
@@ -34,8 +34,16 @@ impl Refs {
     }
 
     pub fn as_slice(&self) -> &[u32]
-        ensures { result.now ≡ self.now }
+        ensures numbers { result.now ≡ self.now }
+        ensures few { length result.now ≤ 8 }
     {
         &self.numbers[..self.count as usize]
+    }
+
+    /// The same numbers.
+    pub fn copied(&self) -> Self
+        ensures { result ≡ self.now }
+    {
+        Refs::of(self.as_slice())
     }
 }
