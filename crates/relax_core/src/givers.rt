@@ -1,6 +1,6 @@
 //! The unit that gives a stream, and the streams that a unit reads.
 
-ghost use Rattle.std.specs.Prelude.{◌≡◌, ◌<◌, ◌≤◌, length};
+ghost use Rattle.std.specs.Prelude.{◌≡◌, ◌<◌, ◌≤◌, length, IfSome, IfNone};
 ghost use Rattle.std.specs.List.{AllByRecursion};
 ghost use Rattle.flowsheet.specs.Plant.{Origin, port, origin_of};
 ghost use Rattle.plant_streams.specs.Streams.{streams_of};
@@ -8,7 +8,7 @@ ghost use Rattle.plant_units.specs.Units.{units_of};
 ghost use Rattle.plant.specs.PlantOf.{plant_of};
 ghost use Rattle.renewal.specs.Plan.{IsPlan};
 ghost use Rattle.renewal.specs.Room.{planned};
-ghost use Rattle.relax_core.specs.Stepping.{IsOutputOf};
+ghost use Rattle.relax_core.specs.Stepping.{IsOutputOf, reads_for};
 
 use plant::StreamSource;
 use renewal::WindowPlan;
@@ -38,4 +38,19 @@ pub(crate) fn reads<'p>(plan: &WindowPlan<'p>, unit: u32) -> &'p [u32]
     ensures streams { AllByRecursion (λ s. s < length (streams_of plan.now.parts)) result.now }
 {
     plan.plant().units()[unit as usize].inputs()
+}
+
+/// The streams that are read by the unit that gives this one, in the order of its input ports; `None` where the stream is
+/// a feed's.
+pub fn inputs_for<'p>(plan: &WindowPlan<'p>, stream: u32) -> Option<&'p [u32]>
+    requires { stream < length (streams_of plan.now.parts) }
+    ensures given { IfSome result (λ streams. IsOutputOf (origin_of (plant_of plan.now.parts) stream)) }
+    ensures reads { IfSome result (λ streams. streams.now ≡ reads_for plan.now stream) }
+    ensures feeds { IfNone result (IsOutputOf (origin_of (plant_of plan.now.parts) stream) → ⊥) }
+{
+    let stream = &plan.plant().streams()[stream as usize];
+    match stream.source {
+        StreamSource::Feed { .. } => None,
+        StreamSource::Port { unit, .. } => Some(reads(plan, unit)),
+    }
 }

@@ -11,5 +11,6 @@ mod room;
 mod settle;
 
 pub use board::{Board, StepFault, StepRow, Stepped};
+pub use givers::inputs_for;
 pub use laws::{boards_have_versions, boards_keep_the_run, steps_keep_boards};
 pub use refs::Refs;
