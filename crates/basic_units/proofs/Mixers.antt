@@ -1,16 +1,17 @@
 -- What the row of a mixer holds, and what one more stream adds.
-use Rattle.std.proofs.Common.{◌≡◌, ℕ, zero, suc, ◌+◌, ◌-◌, ◌*◌, ◌<◌, ◌≤◌, ℤ, pos, ◌+ℤ◌, List, [], ◌∷◌, length, get_or, refl, sym, ap, subst, ◌∙◌, arith}
+use Rattle.std.proofs.Common.{◌≡◌, ℕ, zero, suc, ◌+◌, ◌-◌, ◌*◌, ◌<◌, ◌≤◌, ℤ, pos, ◌+ℤ◌, List, [], ◌∷◌, length, get_or, refl, sym, ap, subst, ◌∙◌, arith, to_z, of_z, lit<}
 use Rattle.std.proofs.lemmas.Int.{ints}
 use Rattle.std.specs.Prelude.{slice_index_or}
 use Rattle.quant.specs.Interval.{Interval, Holds, IsInside, AllHold, AllInside, wide, widest, point}
 use Rattle.quant.specs.Limits.{wide_from}
 use Rattle.quant.specs.Hull.{hull2, hull4, IsHull, IsValue2}
 use Rattle.quant.specs.Rounding.{Floor}
-use Rattle.quant.specs.Operation.{mix}
+use Rattle.quant.specs.Operation.{mix, flows, contents}
 use Rattle.quant.specs.Term.{value, interval}
 use Rattle.quant.proofs.Calls.{read-inside, held-length, inside-length}
 use Rattle.quant.proofs.Terms.{place-holds, place-inside}
 use Rattle.basic_units.specs.Mixer.{flow_of, content_of, streams}
+use Rattle.std.specs.Int.{w64}
 
 -- the limits of one stream, at their places
 abbrev stream : List Interval
@@ -52,6 +53,31 @@ channel-inside n i c p ins r h k l e g =
     read-inside ins p r _ (omega (arith, streams-length n)) g
     (subst (λ (A : Interval). IsInside (slice_index_or ins p (point (pos 0))) A) (stream-at n i c p k l e)
     (place-inside ins (streams n) p h))
+
+-- the channels of stream i lie where a mix takes them
+pub record AreChannels (ins : List ℤ) (i : ℕ) : Type 0 where
+  pub flow : Holds (wide_from (pos 0)) (slice_index_or ins (3 * i) (pos 0))
+  pub conc : Holds wide (slice_index_or ins (3 * i + 1) (pos 0))
+  pub temp : Holds wide (slice_index_or ins (3 * i + 2) (pos 0))
+
+pub channels-held : (n i : ℕ) (ins : List ℤ) → AllHold (streams n) ins → i < n → AreChannels ins i
+channels-held n i ins h k = record {
+  flow = channel-held n i 0 (3 * i) ins h k (lit< tt) (omega arith);
+  conc = channel-held n i 1 (3 * i + 1) ins h k (lit< tt) refl;
+  temp = channel-held n i 2 (3 * i + 2) ins h k (lit< tt) refl;
+}
+
+pub flow-read : (z : ℤ) → Holds (wide_from (pos 0)) z → Holds flows (to_z w64 (of_z w64 z))
+flow-read z h = record { above = omega (arith, ints); below = omega (arith, ints) }
+
+pub content-read : (z : ℤ) → Holds wide z → Holds contents (to_z w64 (of_z w64 z))
+content-read z h = record { above = omega (arith, ints); below = omega (arith, ints) }
+
+pub flow-inside : (A : Interval) → IsInside A (wide_from (pos 0)) → IsInside A flows
+flow-inside A h = record { above = omega (arith, ints); below = omega (arith, ints) }
+
+pub content-inside : (A : Interval) → IsInside A wide → IsInside A contents
+content-inside A h = record { above = omega (arith, ints); below = omega (arith, ints) }
 
 -- and their places are there
 pub channel-room : (n i channel : ℕ) (ins : List ℤ) → AllHold (streams n) ins → i < n → channel < 3 →

@@ -27,7 +27,8 @@ reacted reactor = rest_of blended (reacting reactor)
 abbrev pub jacketed : Reactor → Term
 jacketed reactor = blend_of (heated reactor) jacket (number reactor.ua) (number million)
 
--- Its states at the next tick. The outflow leaves, and the inflow takes the place of as much of the contents; of these the
+-- Its states at the next tick. The outflow leaves, and the inflow takes the place of as much of the contents; of
+-- these the
 -- rate reacts and heats; of the heated contents ua takes the temperature of the jacket.
 abbrev pub next_terms : Reactor → List Term
 next_terms reactor = states_of reactor.limits (volume_after reactor.k) (outflow reactor.k) (reacted reactor)

@@ -23,7 +23,8 @@ measured = input 1
 abbrev pub error : Term
 error = difference set measured
 
--- Its states at the next tick: the integral adds its part of the error, and the output is the bias, the proportional part of
+-- Its states at the next tick: the integral adds its part of the error, and the output is the bias, the proportional
+-- part of
 -- the error and the integral of this tick.
 abbrev pub next_terms : Controller → List Term
 next_terms controller =

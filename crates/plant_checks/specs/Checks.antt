@@ -78,6 +78,7 @@ unfoldable pub source_check : List Stream → ℕ → UnitPart → Checked
 source_check streams u unit =
     each (λ i reference. source_refused u reference (number_of streams reference.name)) 0 (references_of unit.kind)
 
+-- each reference names a material stream or a signal as its port needs
 abbrev pub same_bool : Bool → Bool → Bool
 same_bool true b = b
 same_bool false b = not b

@@ -98,7 +98,7 @@ references_of (part.Controller set measured kp ki bias integral_limits integral 
 references_of (part.Mixer input) = mixer_references 0 input
 references_of (part.Splitter input share) = needs_material (codes "in") input ∷ []
 
--- each reference names a material stream or a signal as its port needs
+-- whether there is such a stream, and it is a signal
 abbrev pub gives_signal : List Stream → Option ℕ → Bool
 gives_signal streams None = false
 gives_signal streams (Some s) = slice_index_or (map (λ stream. stream.signal) streams) s false

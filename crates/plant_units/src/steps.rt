@@ -66,7 +66,7 @@ impl Unit {
     }
 
     /// Whether it holds nothing back.
-    fn is_instant(&self) -> bool
+    pub fn is_instant(&self) -> bool
         ensures { result ≡ is_instant self.now }
     {
         match self {

@@ -1,5 +1,5 @@
 -- The corners of bands at which an operation is least and greatest.
-use Rattle.std.proofs.Common.{◌≡◌, ℤ, pos, ◌*ℤ◌, ◌≤ℤ◌, FitsSigned, to_z, of_z, arith, sym, refl, ap, ◌∙◌, ◌⊎◌, inl, inr, subst}
+use Rattle.std.proofs.Common.{◌≡◌, ℤ, pos, ◌*ℤ◌, ◌≤ℤ◌, FitsSigned, to_z, of_z, arith, sym, refl, ap, ◌∙◌, ◌⊎◌, inl, inr, subst, neg_ℤ}
 use Rattle.std.proofs.lemmas.Int.{ints, clamps, to_z-of_z, by_lt_z}
 use Rattle.std.specs.Int.{w64}
 use Rattle.quant.specs.Interval.{Interval, Holds, IsBand, IsInside, join, point}
@@ -67,18 +67,18 @@ drawn-least c d f G x h b t = elim t [
   }
 ]
 
+-- what is negated is drawn back
+negated : (c d : ℤ) (f : ℤ → ℤ) → IsDrawn c d f → IsDrawn d c (λ x. neg_ℤ (f x))
+negated c d f h = record {
+  up = λ x y p l. omega (arith, ints, h.down x y p l);
+  down = λ x y p l. omega (arith, ints, h.up x y p l);
+}
+
 pub drawn-greatest : (c d : ℤ) (f : ℤ → ℤ) (G : Interval) (x : ℤ) → IsDrawn c d f → IsBand G → Takes c d G.hi G.lo x →
     IsGreatestAt f G x
-drawn-greatest c d f G x h b t = elim t [
-  | inl p ↦ record {
-    holds = high-holds G x b p.1;
-    greatest = λ u k. omega (arith, ints, ap f p.1, h.up u G.hi p.0 k.below);
-  }
-  | inr p ↦ record {
-    holds = low-holds G x b p.1;
-    greatest = λ u k. omega (arith, ints, ap f p.1, h.down G.lo u p.0 k.above);
-  }
-]
+drawn-greatest c d f G x h b t =
+    let k = drawn-least d c (λ u. neg_ℤ (f u)) G x (negated c d f h) b (takes_back c d G.hi G.lo x t) in
+    record { holds = k.holds; greatest = λ u l. omega (arith, ints, k.least u l) }
 
 -- the ends of an exact hull are in order
 pub hull-ordered : (V : ℤ → Type 0) (R : Interval) → IsHull V R → R.lo ≤ℤ R.hi
@@ -168,14 +168,20 @@ pub greatest-drawn : (c d e g : ℤ) (f : ℤ → ℤ → ℤ) (A B : Interval) 
     IsBand B →
     Takes c d A.hi A.lo x → Takes e g B.hi B.lo y → p ≡ f x y → IsGreatestOver f A B p
 greatest-drawn c d e g f A B x y p h a b t s i =
-    let first : (v : ℤ) → IsGreatestAt (λ u. f u v) A x = λ v. drawn-greatest c d (λ u. f u v) A x (h.first v) a t in
-    let second = drawn-greatest e g (f x) B y (h.second x) b s in
+    let back : AreDrawn d c g e (λ u v. neg_ℤ (f u v)) = record {
+      first = λ v. negated c d (λ u. f u v) (h.first v);
+      second = λ u. negated e g (f u) (h.second u);
+    } in
+    let k = least-drawn d c g e (λ u v. neg_ℤ (f u v)) A B x y (neg_ℤ p) back a b (takes_back c d A.hi A.lo x t)
+    (takes_back e g B.hi B.lo y s) (ap neg_ℤ i) in
+    let z = k.found in
     record {
-      found = (x, (first y).holds, (y, second.holds, sym i));
-      greatest = λ u v k l. omega (arith, ints, i, second.greatest v l, (first v).greatest u k);
+      found = (z.0, z.1, (z.2.0, z.2.1, omega (arith, ints, z.2.2)));
+      greatest = λ u v m n. omega (arith, ints, k.least u v m n);
     }
 
--- so the hull of what rises with its first two arguments lies between the least at their lower and the greatest at their
+-- so the hull of what rises with its first two arguments lies between the least at their lower and the greatest at
+-- their
 -- upper ends
 corners4 : (f : ℤ → ℤ → ℤ → ℤ → ℤ) → ((a b d m v : ℤ) → a ≤ℤ b → f a d m v ≤ℤ f b d m v) →
     ((c a b m v : ℤ) → a ≤ℤ b → f c a m v ≤ℤ f c b m v) → (C D M V : Interval) (p q : ℤ) → IsBand C → IsBand D →
@@ -196,8 +202,7 @@ corners4 f first second C D M V p q c d low high =
               ints,
               low.least m w h k,
               first C.lo a D.lo m w v.1.above,
-              second a D.lo b m w
-                  v.2.1.above,
+              second a D.lo b m w v.2.1.above,
               v.2.2.2.2,
             );
             below = omega (
@@ -205,8 +210,7 @@ corners4 f first second C D M V p q c d low high =
               ints,
               high.greatest m w h k,
               first a C.hi D.hi m w v.1.below,
-              second a b D.hi m w
-                  v.2.1.below,
+              second a b D.hi m w v.2.1.below,
               v.2.2.2.2,
             );
           };
@@ -348,16 +352,14 @@ stage-corners r holdup slope X A B L V p q x a b pushes low high =
               arith,
               ints,
               low.least l v h k,
-              rise X.lo A.lo B.lo e f g t.1.above t.2.1.above
-                  t.2.2.1.above,
+              rise X.lo A.lo B.lo e f g t.1.above t.2.1.above t.2.2.1.above,
               t.2.2.2.2.2,
             );
             below = omega (
               arith,
               ints,
               high.greatest l v h k,
-              rise e f g X.hi A.hi B.hi t.1.below t.2.1.below
-                  t.2.2.1.below,
+              rise e f g X.hi A.hi B.hi t.1.below t.2.1.below t.2.2.1.below,
               t.2.2.2.2.2,
             );
           };

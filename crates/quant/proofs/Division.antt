@@ -14,8 +14,7 @@ add-times a b c = omega (
   arith,
   ints,
   ap (λ (t : ℕ). t * up c) (sum_is_lem a b),
-  ap (λ (t : ℕ). t * down c)
-      (sum_is_lem a b),
+  ap (λ (t : ℕ). t * down c) (sum_is_lem a b),
 )
 
 neg-times : (a b : ℤ) → neg_ℤ a *ℤ b ≡ neg_ℤ (a *ℤ b)
@@ -24,8 +23,7 @@ neg-times a b = omega (
   ints,
   ap (λ (t : ℕ). t * up b) (neg_is a).0,
   ap (λ (t : ℕ). t * up b) (neg_is a).1,
-  ap
-      (λ (t : ℕ). t * down b) (neg_is a).0,
+  ap (λ (t : ℕ). t * down b) (neg_is a).0,
   ap (λ (t : ℕ). t * down b) (neg_is a).1,
 )
 
@@ -98,8 +96,7 @@ no-floor-above x y a b v w p q h n l =
     omega (
       arith,
       mul-le-mul_right w (below-parts x a v p),
-      mul-le-mul_right v
-          (above-parts y b w q),
+      mul-le-mul_right v (above-parts y b w q),
       cross-parts a b v w h,
       mul-le-mul_right (v * w) (lt_out y x l),
     )
@@ -167,8 +164,7 @@ floor-is x a v o p q =
       arith,
       ints,
       floors-le x (int_div_euclid a v) a v o p (floor-above_at a v o),
-      floors-le
-          (int_div_euclid a v) x a v o (floor-below_at a v o) q,
+      floors-le (int_div_euclid a v) x a v o (floor-below_at a v o) q,
     )
 
 -- a multiple of the divisor on top adds the multiplier
@@ -212,13 +208,27 @@ quotient-le_whole r a b v w p q h =
       arith,
       ints,
       ap (λ (t : ℤ). a *ℤ t) (divisor-same w q),
-      ap (λ (t : ℤ). b *ℤ t)
-          (divisor-same v p),
+      ap (λ (t : ℤ). b *ℤ t) (divisor-same v p),
       h,
     ))
 
 pub quotient-exact_whole : (r : Rounding) (k v : ℤ) → pos 1 ≤ℤ v → quotient r (k *ℤ v) v ≡ k
 quotient-exact_whole r k v p = ap (λ (t : ℤ). quotient r (k *ℤ t) v) (sym (divisor-same v p)) ∙ quotient-exact r k v
+
+-- so the quotient of what lies between two multiples lies between the multipliers
+pub quotient-between : (r : Rounding) (l h a v : ℤ) → (l *ℤ divisor v) ≤ℤ a → a ≤ℤ (h *ℤ divisor v) →
+    (l ≤ℤ quotient r a v) × (quotient r a v ≤ℤ h)
+quotient-between r l h a v p q = (
+  omega (arith, ints, quotient-rises r (l *ℤ divisor v) a v p, quotient-exact r l v),
+  omega (arith, ints, quotient-rises r a (h *ℤ divisor v) v q, quotient-exact r h v),
+)
+
+pub quotient-between_whole : (r : Rounding) (l h a v : ℤ) → pos 1 ≤ℤ v → (l *ℤ v) ≤ℤ a → a ≤ℤ (h *ℤ v) →
+    (l ≤ℤ quotient r a v) × (quotient r a v ≤ℤ h)
+quotient-between_whole r l h a v o p q =
+    let same = divisor-same v o in
+    quotient-between r l h a v (omega (arith, ints, ap (λ (t : ℤ). l *ℤ t) same))
+    (omega (arith, ints, ap (λ (t : ℤ). h *ℤ t) same))
 
 -- the quotient that code has divided
 pub quotient-floor : (a b x y q : ℤ) → pos 1 ≤ℤ b → x ≡ a → y ≡ b → q ≡ int_div_euclid x y → q ≡ quotient Floor a b

@@ -77,7 +77,8 @@ pub record IsBetween (V : ℤ → ℤ → Type 0) (x y z : ℤ) : Type 0 where
   pub at_right : V y right
   pub between : Holds (join (point left) (point right)) z
 
--- one more argument: the hull over it joins the hulls at its ends, where values at middle numbers lie between values at the ends
+-- one more argument: the hull over it joins the hulls at its ends, where values at middle numbers lie between values
+-- at the ends
 pub hull-step : (V : ℤ → ℤ → Type 0) (R : ℤ → Interval) (A : Interval) → IsBand A → ((a : ℤ) → IsHull (V a) (R a)) →
     ((b z : ℤ) → A.lo ≤ℤ b → b ≤ℤ A.hi → V b z → IsBetween V A.lo A.hi z) →
     IsHull (IsValueOver V A) (join (R A.lo) (R A.hi))

@@ -1,4 +1,5 @@
--- A table is linear between two neighbours: the rises before them have been passed, and those behind them have not begun.
+-- A table is linear between two neighbours: the rises before them have been passed, and those behind them have not
+-- begun.
 use Rattle.std.proofs.Common.{◌≡◌, ℤ, pos, ◌+ℤ◌, ◌-ℤ◌, ◌*ℤ◌, ◌≤ℤ◌, List, [], ◌∷◌, ◌++◌, arith, refl, sym, ap, ◌∙◌}
 use Rattle.std.proofs.lemmas.Int.{ints, clamps}
 use Rattle.quant.specs.Rounding.{Rounding, quotient}
@@ -41,8 +42,7 @@ risen-before r first (to ∷ rest) t s h =
       ints,
       step.hotter,
       passed-before r first to t step h,
-      risen-before r to rest t s.1
-          (omega (arith, ints, step.hotter)),
+      risen-before r to rest t s.1 (omega (arith, ints, step.hotter)),
     )
 
 pub lookup-below : (r : Rounding) (first : ℤ × ℤ) (rest : List (ℤ × ℤ)) (t : ℤ) → AreSteps (first ∷ rest) →

@@ -87,8 +87,7 @@ mix-first r a b d m n h = omega (
   ints,
   mix-is_blend r a d m n,
   mix-is_blend r b d m n,
-  blend-old r a b d
-      (not_negative n) (volume m n) h,
+  blend-old r a b d (not_negative n) (volume m n) h,
 )
 
 pub mix-second : (r : Rounding) (c a b m n : ℤ) → a ≤ℤ b → mix r c a m n ≤ℤ mix r c b m n
@@ -97,8 +96,7 @@ mix-second r c a b m n h = omega (
   ints,
   mix-is_blend r c a m n,
   mix-is_blend r c b m n,
-  blend-added r c a b
-      (not_negative n) (volume m n) h,
+  blend-added r c a b (not_negative n) (volume m n) h,
 )
 
 volume-rises : (k m n : ℤ) → k ≤ℤ m → volume k n ≤ℤ volume m n
@@ -125,7 +123,8 @@ mix-second_alone r c d m n h k =
     ∙ ap (λ t. blend r d c t (volume n m)) none
     ∙ blend-nothing r d c (volume n m) (omega (arith, ints, clamps))
 
--- with less and with more of the second flow a mix is one of the mixes turned round where the first flows, twice the second
+-- with less and with more of the second flow a mix is one of the mixes turned round where the first flows, twice the
+-- second
 -- content where the second alone does, and else first the first content
 two-mixes : (P : ℤ → ℤ → Type 0) (r : Rounding) (c d m k n : ℤ) → k ≤ℤ n → P (mix r d c k m) (mix r d c n m) → P d d →
     P c (mix r c d m n) → P (mix r c d m k) (mix r c d m n)

@@ -7,7 +7,7 @@ use Rattle.quant.specs.Hull.{IsMonotone1, IsMonotone2, IsMonotone4}
 use Rattle.quant.specs.Rounding.{Rounding, quotient, divisor}
 use Rattle.quant.specs.Operation.{million, part, share, keep, gain, blend, clamp, amounts, contents, gains, greatest_amount, greatest_content, steepest}
 use Rattle.quant.proofs.Casts.{product-around}
-use Rattle.quant.proofs.Division.{add-times, times-times, sub-times, times-le, le-times, ge-times, one-le_divisor, divisor-same, quotient-rises, quotient-shifts, quotient-exact, quotient-le_whole, quotient-exact_whole}
+use Rattle.quant.proofs.Division.{add-times, times-times, sub-times, times-le, le-times, ge-times, one-le_divisor, divisor-same, quotient-rises, quotient-shifts, quotient-between, quotient-between_whole, quotient-le_whole}
 
 -- what rises, and what falls, is monotone
 pub rises : (f : ℤ → ℤ) → ((a b : ℤ) → a ≤ℤ b → f a ≤ℤ f b) → IsMonotone1 f
@@ -135,37 +135,15 @@ pub share-between_up : (r : Rounding) (a g : ℤ) → pos 0 ≤ℤ a → (pos 0 
 unfolding share
 share-between_up r a g p =
     let n = part million g in
-    let low : (pos 0 *ℤ divisor million) ≤ℤ (a *ℤ n) =
-    omega (arith, ints, times-le (pos 0) a n (part-above million g) p) in
-    let high : (a *ℤ n) ≤ℤ (a *ℤ divisor million) =
-    le-times n million a p (part-below million g (omega (arith, ints))) in (
-      omega (
-        arith,
-        ints,
-        quotient-rises r (pos 0 *ℤ divisor million) (a *ℤ n) million low,
-        quotient-exact r
-            (pos 0) million,
-      ),
-      omega (arith, ints, quotient-rises r (a *ℤ n) (a *ℤ divisor million) million high, quotient-exact r a million),
-    )
+    quotient-between r (pos 0) a (a *ℤ n) million (omega (arith, ints, times-le (pos 0) a n (part-above million g) p))
+    (le-times n million a p (part-below million g (omega (arith, ints))))
 
 pub share-between_down : (r : Rounding) (a g : ℤ) → a ≤ℤ pos 0 → (a ≤ℤ share r a g) × (share r a g ≤ℤ pos 0)
 unfolding share
 share-between_down r a g p =
     let n = part million g in
-    let high : (a *ℤ n) ≤ℤ (pos 0 *ℤ divisor million) =
-    omega (arith, ints, times-le a (pos 0) n (part-above million g) p) in
-    let low : (a *ℤ divisor million) ≤ℤ (a *ℤ n) =
-    ge-times n million a p (part-below million g (omega (arith, ints))) in (
-      omega (arith, ints, quotient-rises r (a *ℤ divisor million) (a *ℤ n) million low, quotient-exact r a million),
-      omega (
-        arith,
-        ints,
-        quotient-rises r (a *ℤ n) (pos 0 *ℤ divisor million) million high,
-        quotient-exact r
-            (pos 0) million,
-      ),
-    )
+    quotient-between r a (pos 0) (a *ℤ n) million (ge-times n million a p (part-below million g (omega (arith, ints))))
+    (omega (arith, ints, times-le a (pos 0) n (part-above million g) p))
 
 -- a share rises by at most as much as its whole
 share-gains : (r : Rounding) (a b g : ℤ) → a ≤ℤ b → share r b g ≤ℤ (share r a g +ℤ (b -ℤ a))
@@ -178,8 +156,7 @@ share-gains r a b g h =
     omega (
       arith,
       ints,
-      quotient-rises r (b *ℤ n)
-          (a *ℤ n +ℤ (b -ℤ a) *ℤ divisor million) million more,
+      quotient-rises r (b *ℤ n) (a *ℤ n +ℤ (b -ℤ a) *ℤ divisor million) million more,
       quotient-shifts r (a *ℤ n) (b -ℤ a) million,
     )
 
@@ -223,8 +200,7 @@ weighed-times c d w n u =
       arith,
       ints,
       ap (λ (t : ℤ). t *ℤ u) (weighed-is c d w n),
-      add-times (c *ℤ w)
-          ((d -ℤ c) *ℤ n) u,
+      add-times (c *ℤ w) ((d -ℤ c) *ℤ n) u,
       times-times c w u,
       times-times (d -ℤ c) n u,
     )
@@ -300,11 +276,9 @@ blend-volume_less r c d m u v h =
 -- it falls with the volume where what is added is not less, and else rises
 pub blend-volume : (r : Rounding) (c d m : ℤ) → IsDrawn d c (blend r c d m)
 blend-volume r c d m = record {
-  up = λ u v p h. blend-volume_less r c d m v u
-      (ge-times _ _ (d -ℤ c) (omega (arith, ints))
+  up = λ u v p h. blend-volume_less r c d m v u (ge-times _ _ (d -ℤ c) (omega (arith, ints))
       (part-cross (divisor u) (divisor v) m (one-le_divisor u) (divisor-rises u v h)));
-  down = λ u v p h. blend-volume_less r c d m u v
-      (le-times _ _ (d -ℤ c) (omega (arith, ints))
+  down = λ u v p h. blend-volume_less r c d m u v (le-times _ _ (d -ℤ c) (omega (arith, ints))
       (part-cross (divisor u) (divisor v) m (one-le_divisor u) (divisor-rises u v h)));
 }
 
@@ -313,72 +287,41 @@ blend-monotone r = monotone4 (blend r) (blend-old r) (blend-added r)
     (λ c d v. drawn-monotone c d (λ m. blend r c d m v) (blend-part r c d v))
     (λ c d m. drawn-monotone d c (blend r c d m) (blend-volume r c d m))
 
+-- the same, seen from what is added
+weighed-new : (c d w n : ℤ) → weighed c d w n ≡ d *ℤ w -ℤ (d -ℤ c) *ℤ (w -ℤ n)
+weighed-new c d w n =
+    omega (
+      arith,
+      ints,
+      weighed-is c d w n,
+      sub-times d c w,
+      *ℤ_comm (d -ℤ c) (w -ℤ n),
+      sub-times w n
+          (d -ℤ c),
+      *ℤ_comm w (d -ℤ c),
+      *ℤ_comm n (d -ℤ c),
+    )
+
 -- a blend lies between what is there and what is added
 pub blend-between_up : (r : Rounding) (c d m v : ℤ) → c ≤ℤ d → (c ≤ℤ blend r c d m v) × (blend r c d m v ≤ℤ d)
 unfolding blend
 blend-between_up r c d m v p =
     let w = divisor v in
     let n = part w m in
-    let e : pos 0 ≤ℤ (d -ℤ c) = omega (arith, ints) in
-    let low : (c *ℤ w) ≤ℤ weighed c d w n = omega
-    (arith, ints, weighed-is c d w n, le-times (pos 0) n (d -ℤ c) e (part-above w m)) in
-    let high : weighed c d w n ≤ℤ (d *ℤ w) =
-    omega (
-      arith,
-      ints,
-      weighed-is c d w n,
-      le-times n w (d -ℤ c) e
-          (part-below w m (omega (arith, ints, one-le_divisor v))),
-      sub-times d c w,
-    ) in (
-      omega (
-        arith,
-        ints,
-        quotient-rises r (c *ℤ w) (weighed c d w n) w low,
-        quotient-exact_whole r c w
-            (one-le_divisor v),
-      ),
-      omega (
-        arith,
-        ints,
-        quotient-rises r (weighed c d w n) (d *ℤ w) w high,
-        quotient-exact_whole r d w
-            (one-le_divisor v),
-      ),
-    )
+    let kept : pos 0 ≤ℤ (w -ℤ n) = omega (arith, ints, part-below w m (omega (arith, ints, one-le_divisor v))) in
+    quotient-between_whole r c d (weighed c d w n) w (one-le_divisor v)
+    (omega (arith, ints, weighed-is c d w n, le-times (pos 0) n (d -ℤ c) (omega (arith, ints)) (part-above w m)))
+    (omega (arith, ints, weighed-new c d w n, le-times (pos 0) (w -ℤ n) (d -ℤ c) (omega (arith, ints)) kept))
 
 pub blend-between_down : (r : Rounding) (c d m v : ℤ) → d ≤ℤ c → (d ≤ℤ blend r c d m v) × (blend r c d m v ≤ℤ c)
 unfolding blend
 blend-between_down r c d m v p =
     let w = divisor v in
     let n = part w m in
-    let e : (d -ℤ c) ≤ℤ pos 0 = omega (arith, ints) in
-    let high : weighed c d w n ≤ℤ (c *ℤ w) = omega
-    (arith, ints, weighed-is c d w n, ge-times (pos 0) n (d -ℤ c) e (part-above w m)) in
-    let low : (d *ℤ w) ≤ℤ weighed c d w n =
-    omega (
-      arith,
-      ints,
-      weighed-is c d w n,
-      ge-times n w (d -ℤ c) e
-          (part-below w m (omega (arith, ints, one-le_divisor v))),
-      sub-times d c w,
-    ) in (
-      omega (
-        arith,
-        ints,
-        quotient-rises r (d *ℤ w) (weighed c d w n) w low,
-        quotient-exact_whole r d w
-            (one-le_divisor v),
-      ),
-      omega (
-        arith,
-        ints,
-        quotient-rises r (weighed c d w n) (c *ℤ w) w high,
-        quotient-exact_whole r c w
-            (one-le_divisor v),
-      ),
-    )
+    let kept : pos 0 ≤ℤ (w -ℤ n) = omega (arith, ints, part-below w m (omega (arith, ints, one-le_divisor v))) in
+    quotient-between_whole r d c (weighed c d w n) w (one-le_divisor v)
+    (omega (arith, ints, weighed-new c d w n, ge-times (pos 0) (w -ℤ n) (d -ℤ c) (omega (arith, ints)) kept))
+    (omega (arith, ints, weighed-is c d w n, ge-times (pos 0) n (d -ℤ c) (omega (arith, ints)) (part-above w m)))
 
 -- the same, as the contracts say it
 pub share-between : (r : Rounding) (a g : ℤ) → Holds (join (point (pos 0)) (point a)) (share r a g)
@@ -422,24 +365,9 @@ pub gain-within : (r : Rounding) (k a : ℤ) (m p n : ℕ) → m * p ≡ n * 100
 unfolding gain
 gain-within r k a m p n e h i =
     let size = product-around a k m p h i in
-    let low : (neg_ℤ (pos n) *ℤ divisor million) ≤ℤ (a *ℤ k) = omega (arith, ints, clamps) in
-    let high : (a *ℤ k) ≤ℤ (pos n *ℤ divisor million) = omega (arith, ints, clamps) in
-    record {
-      above = omega (
-        arith,
-        ints,
-        quotient-rises r (neg_ℤ (pos n) *ℤ divisor million)
-            (a *ℤ k) million low,
-        quotient-exact r (neg_ℤ (pos n)) million,
-      );
-      below = omega (
-        arith,
-        ints,
-        quotient-rises r (a *ℤ k) (pos n *ℤ divisor million) million high,
-        quotient-exact r
-            (pos n) million,
-      );
-    }
+    let both = quotient-between r (neg_ℤ (pos n)) (pos n) (a *ℤ k) million (omega (arith, ints, clamps))
+    (omega (arith, ints, clamps)) in
+    record { above = both.0; below = both.1 }
 
 pub gain-around : (r : Rounding) (k a : ℤ) → Holds amounts a → Holds gains k → Holds contents (gain r k a)
 gain-around r k a h p = gain-within r k a greatest_amount steepest greatest_content refl h p

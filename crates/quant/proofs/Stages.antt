@@ -6,7 +6,7 @@ use Rattle.quant.specs.Interval.{Holds, around, wide, widest}
 use Rattle.quant.specs.Hull.{IsMonotone1, IsMonotone5}
 use Rattle.quant.specs.Rounding.{Rounding, quotient}
 use Rattle.quant.specs.Operation.{million, kept, tray, stage_flows, holdups, slopes, weights, IsDrainable, contents, greatest_content, stage_contents, greatest_stage_content}
-use Rattle.quant.proofs.Division.{add-times, sub-times, times-times, times-le, le-times, ge-times, quotient-rises, quotient-exact_whole}
+use Rattle.quant.proofs.Division.{add-times, sub-times, times-times, times-le, le-times, ge-times, quotient-rises, quotient-between_whole}
 use Rattle.quant.proofs.Operations.{IsDrawn, drawn-monotone, quotient-drawn}
 
 -- f grows by k with each step of its argument
@@ -202,11 +202,9 @@ kept-weighs holdup slope l v h s i j d =
     record { above = omega (arith, ints); below = omega (arith, ints) }
 
 -- a number weighed is no further from 0 than its bound weighed
-weighed-low : (a k : ℤ) (n : ℕ) → Holds (around n) a → pos 0 ≤ℤ k → (neg_ℤ (pos n) *ℤ k) ≤ℤ (a *ℤ k)
-weighed-low a k n h p = times-le (neg_ℤ (pos n)) a k p h.above
-
-weighed-high : (a k : ℤ) (n : ℕ) → Holds (around n) a → pos 0 ≤ℤ k → (a *ℤ k) ≤ℤ (pos n *ℤ k)
-weighed-high a k n h p = times-le a (pos n) k p h.below
+weighed-around : (a k : ℤ) (n : ℕ) → Holds (around n) a → pos 0 ≤ℤ k →
+    ((neg_ℤ (pos n) *ℤ k) ≤ℤ (a *ℤ k)) × ((a *ℤ k) ≤ℤ (pos n *ℤ k))
+weighed-around a k n h p = (times-le (neg_ℤ (pos n)) a k p h.above, times-le a (pos n) k p h.below)
 
 -- the content after a tick, where the three contents are of this size
 pub tray-around : (r : Rounding) (holdup slope x xa yb l v : ℤ) → Holds wide x → Holds wide xa → Holds contents yb →
@@ -219,39 +217,13 @@ tray-around r holdup slope x xa yb l v a b c h s i j d =
     let k = kept-weighs holdup slope l v h s i j d in
     let w = holdup *ℤ million in
     let one : pos 1 ≤ℤ w = omega (arith, ints) in
+    let own = weighed-around x (kept holdup slope l v) widest a k.above in
+    let above = weighed-around xa l widest b i.above in
+    let below = weighed-around yb v greatest_content c j.above in
     let low : (neg_ℤ (pos greatest_stage_content) *ℤ w) ≤ℤ held holdup slope x xa yb l v =
-    omega (
-      arith,
-      ints,
-      weighed-low x (kept holdup slope l v) widest a k.above,
-      weighed-low xa l widest b i.above,
-      weighed-low yb v greatest_content c j.above,
-      d.leaves,
-      d.passes,
-    ) in
+    omega (arith, ints, own.0, above.0, below.0, d.leaves, d.passes) in
     let high : held holdup slope x xa yb l v ≤ℤ (pos greatest_stage_content *ℤ w) =
-    omega (
-      arith,
-      ints,
-      weighed-high x (kept holdup slope l v) widest a k.above,
-      weighed-high xa l widest b i.above,
-      weighed-high yb v greatest_content c j.above,
-      d.leaves,
-      d.passes,
-    ) in
-    record {
-      above = omega (
-        arith,
-        ints,
-        quotient-rises r (neg_ℤ (pos greatest_stage_content) *ℤ w)
-            (held holdup slope x xa yb l v) w low,
-        quotient-exact_whole r (neg_ℤ (pos greatest_stage_content)) w one,
-      );
-      below = omega (
-        arith,
-        ints,
-        quotient-rises r (held holdup slope x xa yb l v)
-            (pos greatest_stage_content *ℤ w) w high,
-        quotient-exact_whole r (pos greatest_stage_content) w one,
-      );
-    }
+    omega (arith, ints, own.1, above.1, below.1, d.leaves, d.passes) in
+    let both = quotient-between_whole r (neg_ℤ (pos greatest_stage_content))
+    (pos greatest_stage_content) _ w one low high in
+    record { above = both.0; below = both.1 }

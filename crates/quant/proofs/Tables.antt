@@ -9,7 +9,7 @@ use Rattle.quant.specs.Rounding.{Rounding, Floor, quotient, divisor}
 use Rattle.quant.specs.Operation.{not_negative, part, passed, risen, lookup}
 use Rattle.quant.specs.Interval.{Holds}
 use Rattle.quant.specs.Table.{rates, HasRate, IsStep, AreSteps, IsTable}
-use Rattle.quant.proofs.Division.{le-times, one-le_divisor, quotient-rises, quotient-exact, quotient-floor}
+use Rattle.quant.proofs.Division.{le-times, one-le_divisor, quotient-rises, quotient-between, quotient-floor}
 use Rattle.quant.proofs.Operations.{rises, part-rises}
 
 passed-rises : (r : Rounding) (from to : ℤ × ℤ) (t u : ℤ) → t ≤ℤ u → passed r from to t ≤ℤ passed r from to u
@@ -47,10 +47,9 @@ passed-between r from to t s =
     let o = one-le_divisor gap in
     let low : (pos 0 *ℤ divisor w) ≤ℤ (rise *ℤ n) =
     omega (arith, ints, le-times (pos 0) n rise p (omega (arith, ints, clamps))) in
-    let high : (rise *ℤ n) ≤ℤ (rise *ℤ divisor w) = le-times n (divisor w) rise p (omega (arith, ints, clamps)) in (
-      omega (arith, ints, quotient-rises r (pos 0 *ℤ divisor w) (rise *ℤ n) w low, quotient-exact r (pos 0) w),
-      omega (arith, ints, e, quotient-rises r (rise *ℤ n) (rise *ℤ divisor w) w high, quotient-exact r rise w),
-    )
+    let high : (rise *ℤ n) ≤ℤ (rise *ℤ divisor w) = le-times n (divisor w) rise p (omega (arith, ints, clamps)) in
+    let both = quotient-between r (pos 0) rise (rise *ℤ n) w low high in
+    (both.0, omega (arith, ints, e, both.1))
 
 -- the rise and the part that the code takes are those of the definition
 pub same-passed : (r : Rounding) (from to : ℤ × ℤ) (t rise gone gap : ℤ) → IsStep from to →
@@ -157,8 +156,7 @@ under-way-points points i d t rate h l w =
     let rest = drop (i + 1) points in
     let to = get_or points i d in (
       All-head HasRate (get_or points (i - 1) d) (to ∷ rest) u.each,
-      All-head HasRate to rest
-          (All-tail HasRate (get_or points (i - 1) d) (to ∷ rest) u.each),
+      All-head HasRate to rest (All-tail HasRate (get_or points (i - 1) d) (to ∷ rest) u.each),
       u.steps.0,
       u.below,
     )

@@ -250,8 +250,7 @@ pub intervals-inside : (r : Rounding) (terms : List Term) (states inputs wider_s
 intervals-inside r [] states inputs wider_states wider_inputs s i h k = tt
 intervals-inside r (t ∷ terms) states inputs wider_states wider_inputs s i h k = (
   interval-inside r states inputs wider_states wider_inputs s i h k t,
-  intervals-inside r terms states inputs
-      wider_states wider_inputs s i h k,
+  intervals-inside r terms states inputs wider_states wider_inputs s i h k,
 )
 
 -- many terms over bands of one number each are those of the numbers

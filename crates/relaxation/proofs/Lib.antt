@@ -8,6 +8,8 @@ pub mod Quiet
 pub mod Stays
 pub mod Growth
 pub mod LastSteps
+pub mod IdleSweeps
+pub mod Renewing
 pub mod Places
 pub mod Sweeps
 pub mod Counts

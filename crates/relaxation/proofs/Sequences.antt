@@ -42,12 +42,12 @@ module _ (window : Window) where
   ]
 
   -- an idle step is left out of the narrowing steps
-  narrowing-idle : (state : Versions) (step : Step) (steps : List Step) → is_idle window state step ≡ true →
+  pub narrowing-idle : (state : Versions) (step : Step) (steps : List Step) → is_idle window state step ≡ true →
       narrowing window state (step ∷ steps) ≡ narrowing window state steps
   narrowing-idle state step steps e = rw e refl
 
   -- another stands first among them
-  narrowing-more : (state : Versions) (step : Step) (steps : List Step) → is_idle window state step ≡ false →
+  pub narrowing-more : (state : Versions) (step : Step) (steps : List Step) → is_idle window state step ≡ false →
       narrowing window state (step ∷ steps) ≡ step ∷ narrowing window (after_step window state step) steps
   narrowing-more state step steps e = rw e refl
 

@@ -9,6 +9,7 @@
 
 mod core_laws;
 mod history_laws;
+mod renewal_laws;
 mod sweep_laws;
 mod tube_laws;
 mod worked_laws;
@@ -18,6 +19,13 @@ pub use core_laws::{
     legal_steps_keep_the_run, steps_join,
 };
 pub use history_laws::{gathered_histories_are_adopted, seen_histories_are_enough};
-pub use sweep_laws::{appended_versions_keep_steps, sweeps_settle};
-pub use tube_laws::tests_are_relations;
+pub use renewal_laws::{narrower_inputs_renew_to_narrower_outputs, registers_show_earlier_inputs};
+pub use sweep_laws::{
+    appended_versions_keep_steps, idle_sweeps_are_quiet, steps_from_last_versions_settle,
+    sweeps_settle,
+};
+pub use tube_laws::{
+    meets_are_what_both_hold, narrower_tubes_are_less_wide, tests_are_relations,
+    tubes_lie_in_wider_ones,
+};
 pub use worked_laws::{worked_histories, worked_sweep, worked_window};

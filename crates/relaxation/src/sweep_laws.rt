@@ -1,7 +1,8 @@
-ghost use Rattle.std.specs.Prelude.{◌≡◌, ℕ, ◌+◌, ◌*◌, ◌<◌, ◌≤◌, true, List, length, Contains};
+ghost use Rattle.std.specs.Prelude.{◌≡◌, ℕ, ◌+◌, ◌*◌, ◌<◌, ◌≤◌, true, List, [], length, Contains};
+ghost use Rattle.flowsheet.specs.Plant.{port, unit_at, origin_of};
 ghost use Rattle.relaxation.specs.Window.{Window, IsOpen};
-ghost use Rattle.relaxation.specs.Core.{Versions, Step, opening_versions, versions_of, step_renewal, IsLegal, is_idle, after_step, reached, AreLegal, IsQuiet};
-ghost use Rattle.relaxation.specs.Sweep.{AreSweeps, replay_sweeps, IsRunBelow};
+ghost use Rattle.relaxation.specs.Core.{Versions, Step, opening_versions, versions_of, step_renewal, IsLegal, is_idle, after_step, reached, AreLegal, narrowing, last_numbers, IsSettled, IsQuiet};
+ghost use Rattle.relaxation.specs.Sweep.{IsSweep, AreSweeps, replay_sweeps, IsRunBelow};
 
 /// Sweeps settle a window, from any legal list of steps.
 pub fn sweeps_settle()
@@ -38,4 +39,19 @@ pub fn appended_versions_keep_steps()
     ensures done { (window : Window) (steps : List Step) (step : Step) → IsOpen window →
         AreLegal window (opening_versions window) steps → Contains steps step →
         is_idle window (reached window steps) step ≡ true }
+{}
+
+/// A sweep in which nothing narrows begins at a quiet state, and ends there.
+pub fn idle_sweeps_are_quiet()
+    ensures { (window : Window) (state : Versions) (steps : List Step) → IsSweep window state steps →
+        narrowing window state steps ≡ [] → IsQuiet window state }
+{}
+
+/// A stream that was renewed from what are still the last versions of its unit's inputs is settled.
+pub fn steps_from_last_versions_settle()
+    ensures { (window : Window) (steps : List Step) (step : Step) (u p : ℕ) → IsOpen window →
+        AreLegal window (opening_versions window) steps → Contains steps step →
+        origin_of window.plant step.stream ≡ port u p →
+        step.inputs ≡ last_numbers (reached window steps) (unit_at window.plant u).reads →
+        IsSettled window (reached window steps) step.stream (origin_of window.plant step.stream) }
 {}

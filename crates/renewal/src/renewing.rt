@@ -63,7 +63,8 @@ pub fn renew(plan: &WindowPlan<'_>, unit: u32, inputs: &Inputs, outputs: &mut Ou
     requires unit { unit < length (units_of plan.now.parts) }
     requires inputs { AreOpened plan.now (planned plan.now unit).reads inputs.now }
     requires room { HasRoomFor plan.now unit outputs.old }
-    ensures { outputs.new ≡ renewal_of plan.now unit inputs.now }
+    ensures renewal { outputs.new ≡ renewal_of plan.now unit inputs.now }
+    ensures room { HasRoomFor plan.now unit outputs.new }
 {
     let carried = plan.carried().unit(unit);
     let mut room = [Band::point(0); STATES];

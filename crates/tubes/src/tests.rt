@@ -59,3 +59,38 @@ fn tubes_of_other_shapes_do_not_fit(rt: HostRuntime) -> Result<(), Fail> {
     );
     Ok(())
 }
+
+#[test]
+fn meets_of_one_place(rt: HostRuntime) -> Result<(), Fail> {
+    let cases = [
+        (
+            Band { lo: 3, hi: 9 },
+            Band { lo: 5, hi: 12 },
+            Met::Narrowed,
+            Band { lo: 5, hi: 9 },
+        ),
+        (
+            Band { lo: 3, hi: 9 },
+            Band { lo: 3, hi: 9 },
+            Met::Same,
+            Band { lo: 3, hi: 9 },
+        ),
+        (
+            Band { lo: 3, hi: 4 },
+            Band { lo: 5, hi: 6 },
+            Met::Empty {
+                tick: 0,
+                channel: 0,
+            },
+            Band { lo: 3, hi: 4 },
+        ),
+    ];
+    for (band, other, met, left) in cases {
+        let mut tube = Tube::filled(rt.alloc(), 1, &[band])?;
+        let other = Tube::filled(rt.alloc(), 1, &[other])?;
+        assert_eq!(rt; tube.meet_into(&other), met);
+        assert!(rt; tube.fits(&other) && tube.inside(&Tube::filled(rt.alloc(), 1, &[left])?));
+        assert_eq!(rt; tube.width(), u128::from(left.hi.abs_diff(left.lo)));
+    }
+    Ok(())
+}

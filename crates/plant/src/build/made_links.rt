@@ -10,20 +10,13 @@ use plant_units::Unit;
 use std::alloc::{AllocError, Global};
 use topology::Links;
 
-/// Whether a unit holds nothing back.
-fn is_instant(unit: &Unit) -> bool
-    ensures { result ≡ is_instant unit.now }
-{
-    matches!(unit, Unit::Mixer { .. } | Unit::Splitter { .. })
-}
-
 /// Whether each unit holds nothing back.
 fn instant_of(alloc: Global, units: &[Unit]) -> Result<Vec<bool>, AllocError>
     ensures { IfOk result (λ instant. instant.items ≡ map is_instant units.now) }
 {
     let mut instant = Vec::new(alloc);
     for unit in units {
-        instant.push(is_instant(unit))?;
+        instant.push(unit.is_instant())?;
     }
     Ok(instant)
 }

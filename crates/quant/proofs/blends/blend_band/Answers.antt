@@ -1,4 +1,5 @@
--- The least blend is that of the lower ends, and the greatest that of the upper ones, each at opposite ends of the other two.
+-- The least blend is that of the lower ends, and the greatest that of the upper ones, each at opposite ends of the
+-- other two.
 use Rattle.std.proofs.Common.{to_z, of_z, rules}
 use Rattle.std.specs.Int.{w64}
 use Rattle.quant.specs.Hull.{hull4, IsHull, IsValue4}

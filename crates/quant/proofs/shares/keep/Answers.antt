@@ -17,8 +17,7 @@ kept a g x y s e f h k =
       ints,
       keep-is Floor a g,
       share-around Floor a g greatest_content k,
-      keep-around Floor a g
-          greatest_content k,
+      keep-around Floor a g greatest_content k,
     )
 
 pub returns-clause-value : goal.returns-clause-value

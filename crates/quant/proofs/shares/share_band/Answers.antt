@@ -1,4 +1,5 @@
--- A share is least at the lower end of its whole, and greatest at the upper one, each at the end of the ppm that its sign picks.
+-- A share is least at the lower end of its whole, and greatest at the upper one, each at the end of the ppm that its
+-- sign picks.
 use Rattle.std.proofs.Common.{pos, to_z, of_z, rules, refl}
 use Rattle.std.specs.Int.{w64}
 use Rattle.quant.specs.Hull.{hull2, IsHull, IsValue2}

@@ -1,4 +1,5 @@
--- The least content is that of the lower ends, and the greatest that of the upper ones, each at the flows that it draws.
+-- The least content is that of the lower ends, and the greatest that of the upper ones, each at the flows that it
+-- draws.
 use Rattle.std.proofs.Common.{ℤ, ◌*ℤ◌, to_z, of_z, rules, ap, refl}
 use Rattle.std.proofs.lemmas.Int.{to_z-of_z}
 use Rattle.std.specs.Int.{w64}

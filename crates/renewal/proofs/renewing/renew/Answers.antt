@@ -48,10 +48,19 @@ renew_tick-requires-clause-room c =
     let few = carried-few plan c.args.unit f.0 f.1 c.args.inputs.now in
     omega (arith, ap length is, few, c.loop-tick.auto.new, carried-counted plan c.args.unit f.0 f.1 c.args.inputs.now)
 
-pub returns : goal.returns
-returns c =
+-- all ticks are renewed
+whole : (c : goal.After-room-in-loop-tick-1) →
+    IsRenewed c.args.plan.now c.args.unit c.args.inputs.now c.args.plan.now.ticks c.loop-tick.outputs
+whole c =
+    let plan = c.args.plan.now in
+    let all : c.loop-tick.tick ≡ plan.ticks = omega (arith, c.ticks-tick-end.ensures) in
+    subst (λ (n : ℕ). IsRenewed plan c.args.unit c.args.inputs.now n c.loop-tick.outputs) all c.loop-tick.invariant
+
+pub returns-clause-renewal : goal.returns-clause-renewal
+returns-clause-renewal c =
     let plan = c.args.plan.now in
     let f = some-giver plan c.args.unit c.carried.ensures.plan c.requires.unit in
-    let all : c.loop-tick.tick ≡ plan.ticks = omega (arith, c.ticks-tick-end.ensures) in
-    renewed-whole plan c.args.unit f.0 f.1 c.args.inputs.now c.loop-tick.outputs
-    (subst (λ (n : ℕ). IsRenewed plan c.args.unit c.args.inputs.now n c.loop-tick.outputs) all c.loop-tick.invariant)
+    renewed-whole plan c.args.unit f.0 f.1 c.args.inputs.now c.loop-tick.outputs (whole c)
+
+pub returns-clause-room : goal.returns-clause-room
+returns-clause-room c = (whole c).shape

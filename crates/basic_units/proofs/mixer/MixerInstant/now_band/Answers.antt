@@ -10,7 +10,7 @@ use Rattle.quant.specs.Term.{interval}
 use Rattle.quant.proofs.Calls.{filled, same_cons, inside-length, read, hulled2, hulled4}
 use Rattle.basic_units.specs.Mixer.{flow_of, content_of, streams}
 use Rattle.basic_units.proofs.Reactors.{joined-wide}
-use Rattle.basic_units.proofs.Mixers.{AreMixedBands, channel-room_bands, channel-inside, streams-length, flow-more_bands, content-more_bands, sum-inside}
+use Rattle.basic_units.proofs.Mixers.{AreMixedBands, flow-inside, content-inside, channel-room_bands, channel-inside, streams-length, flow-more_bands, content-more_bands, sum-inside}
 use Rattle.basic_units.proofs.mixer.MixerInstant.now_band.Goals as goal
 
 pub loop-i-init : goal.loop-i-init
@@ -52,31 +52,27 @@ bounds-ins-i-in-loop-i-2 c =
 
 pub mix_band-conc-requires-clause-second : goal.mix_band-conc-requires-clause-second
 mix_band-conc-requires-clause-second c =
-    let h = channel-inside c.args.self.now.inputs c.loop-i.i 1
-    (3 * c.loop-i.i + 1) c.args.ins.now c.index-ins-i-in-loop-i.result c.requires.inputs c.loop-i-test.true (lit< tt)
-    (omega arith) c.index-ins-i-in-loop-i.is in
-    record { above = omega (arith, ints); below = omega (arith, ints) }
+    content-inside _ (channel-inside c.args.self.now.inputs c.loop-i.i 1
+    (3 * c.loop-i.i + 1) c.args.ins.now _ c.requires.inputs
+    c.loop-i-test.true (lit< tt) (omega arith) c.index-ins-i-in-loop-i.is)
 
 pub mix_band-conc-requires-clause-second_flow : goal.mix_band-conc-requires-clause-second_flow
 mix_band-conc-requires-clause-second_flow c =
-    let h = channel-inside c.args.self.now.inputs c.loop-i.i 0
-    (3 * c.loop-i.i) c.args.ins.now c.index-ins-i.result c.requires.inputs c.loop-i-test.true (lit< tt)
-    (omega arith) c.index-ins-i.is in
-    record { above = omega (arith, ints); below = omega (arith, ints) }
+    flow-inside _ (channel-inside c.args.self.now.inputs c.loop-i.i 0
+    (3 * c.loop-i.i) c.args.ins.now _ c.requires.inputs
+    c.loop-i-test.true (lit< tt) (omega arith) c.index-ins-i.is)
 
 pub mix_band-temp-requires-clause-second : goal.mix_band-temp-requires-clause-second
 mix_band-temp-requires-clause-second c =
-    let h = channel-inside c.args.self.now.inputs c.loop-i.i 2
-    (3 * c.loop-i.i + 2) c.args.ins.now c.index-ins-i-in-loop-i-2.result c.requires.inputs c.loop-i-test.true (lit< tt)
-    (omega arith) c.index-ins-i-in-loop-i-2.is in
-    record { above = omega (arith, ints); below = omega (arith, ints) }
+    content-inside _ (channel-inside c.args.self.now.inputs c.loop-i.i 2
+    (3 * c.loop-i.i + 2) c.args.ins.now _ c.requires.inputs
+    c.loop-i-test.true (lit< tt) (omega arith) c.index-ins-i-in-loop-i-2.is)
 
 pub mix_band-temp-requires-clause-second_flow : goal.mix_band-temp-requires-clause-second_flow
 mix_band-temp-requires-clause-second_flow c =
-    let h = channel-inside c.args.self.now.inputs c.loop-i.i 0
-    (3 * c.loop-i.i) c.args.ins.now c.index-ins-i.result c.requires.inputs c.loop-i-test.true (lit< tt)
-    (omega arith) c.index-ins-i.is in
-    record { above = omega (arith, ints); below = omega (arith, ints) }
+    flow-inside _ (channel-inside c.args.self.now.inputs c.loop-i.i 0
+    (3 * c.loop-i.i) c.args.ins.now _ c.requires.inputs
+    c.loop-i-test.true (lit< tt) (omega arith) c.index-ins-i.is)
 
 pub add_band-flow-requires-clause-right : goal.add_band-flow-requires-clause-right
 add_band-flow-requires-clause-right c =

@@ -8,18 +8,16 @@ use Rattle.quant.specs.Operation.{mix, clamp}
 use Rattle.quant.specs.Term.{value}
 use Rattle.quant.proofs.Calls.{filled, same_cons, held-length, given1, given2, given4}
 use Rattle.basic_units.specs.Mixer.{flow_of, content_of, streams}
-use Rattle.basic_units.proofs.Mixers.{AreMixed, channel-room, channel-held, streams-length, flow-more, content-more}
+use Rattle.basic_units.proofs.Mixers.{AreMixed, channel-room, channels-held, flow-read, content-read, streams-length, flow-more, content-more}
 use Rattle.basic_units.proofs.mixer.MixerInstant.now_point.Goals as goal
 
 pub loop-i-init : goal.loop-i-init
 loop-i-init c =
     let ins = c.args.ins.now in
-    let f = channel-held c.args.self.now.inputs 0 0 0 c.args.ins.now c.requires.inputs
-    (omega (arith, c.requires.sound.some)) (lit< tt) (omega arith) in
-    let g = channel-held c.args.self.now.inputs 0 1 1 c.args.ins.now c.requires.inputs
-    (omega (arith, c.requires.sound.some)) (lit< tt) (omega arith) in
-    let h = channel-held c.args.self.now.inputs 0 2 2 c.args.ins.now c.requires.inputs
-    (omega (arith, c.requires.sound.some)) (lit< tt) (omega arith) in
+    let held = channels-held _ 0 ins c.requires.inputs (omega (arith, c.requires.sound.some)) in
+    let f = held.flow in
+    let g = held.conc in
+    let h = held.temp in
     record {
       flow_is = to_z-of_z w64 (slice_index_or ins 0 (pos 0)) (search rules);
       conc_is = to_z-of_z w64 (slice_index_or ins 1 (pos 0)) (search rules);
@@ -49,32 +47,23 @@ bounds-ins-i-in-loop-i-2 c =
 
 pub mix-conc-requires-clause-second : goal.mix-conc-requires-clause-second
 mix-conc-requires-clause-second c =
-    let h = channel-held c.args.self.now.inputs c.loop-i.i 1
-    (3 * c.loop-i.i + 1) c.args.ins.now c.requires.inputs c.loop-i-test.true (lit< tt) (omega arith) in
-    record { above = omega (arith, ints); below = omega (arith, ints) }
+    content-read _ (channels-held _ _ _ c.requires.inputs c.loop-i-test.true).conc
 
 pub mix-conc-requires-clause-second_flow : goal.mix-conc-requires-clause-second_flow
 mix-conc-requires-clause-second_flow c =
-    let h = channel-held c.args.self.now.inputs c.loop-i.i 0
-    (3 * c.loop-i.i) c.args.ins.now c.requires.inputs c.loop-i-test.true (lit< tt) (omega arith) in
-    record { above = omega (arith, ints); below = omega (arith, ints) }
+    flow-read _ (channels-held _ _ _ c.requires.inputs c.loop-i-test.true).flow
 
 pub mix-temp-requires-clause-second : goal.mix-temp-requires-clause-second
 mix-temp-requires-clause-second c =
-    let h = channel-held c.args.self.now.inputs c.loop-i.i 2
-    (3 * c.loop-i.i + 2) c.args.ins.now c.requires.inputs c.loop-i-test.true (lit< tt) (omega arith) in
-    record { above = omega (arith, ints); below = omega (arith, ints) }
+    content-read _ (channels-held _ _ _ c.requires.inputs c.loop-i-test.true).temp
 
 pub mix-temp-requires-clause-second_flow : goal.mix-temp-requires-clause-second_flow
 mix-temp-requires-clause-second_flow c =
-    let h = channel-held c.args.self.now.inputs c.loop-i.i 0
-    (3 * c.loop-i.i) c.args.ins.now c.requires.inputs c.loop-i-test.true (lit< tt) (omega arith) in
-    record { above = omega (arith, ints); below = omega (arith, ints) }
+    flow-read _ (channels-held _ _ _ c.requires.inputs c.loop-i-test.true).flow
 
 pub add-flow-requires-clause-right : goal.add-flow-requires-clause-right
 add-flow-requires-clause-right c =
-    let h = channel-held c.args.self.now.inputs c.loop-i.i 0
-    (3 * c.loop-i.i) c.args.ins.now c.requires.inputs c.loop-i-test.true (lit< tt) (omega arith) in
+    let h = (channels-held _ _ _ c.requires.inputs c.loop-i-test.true).flow in
     record { above = omega (arith, ints); below = omega (arith, ints) }
 
 pub loop-i-preserved : goal.loop-i-preserved
@@ -88,12 +77,10 @@ loop-i-preserved c =
     let m : to_z w64 (of_z w64 more) ≡ more = to_z-of_z w64 more (search rules) in
     let d : to_z w64 (of_z w64 conc) ≡ conc = to_z-of_z w64 conc (search rules) in
     let t : to_z w64 (of_z w64 temp) ≡ temp = to_z-of_z w64 temp (search rules) in
-    let f = channel-held c.args.self.now.inputs c.loop-i.i 0
-    (3 * c.loop-i.i) c.args.ins.now c.requires.inputs c.loop-i-test.true (lit< tt) (omega arith) in
-    let g = channel-held c.args.self.now.inputs c.loop-i.i 1
-    (3 * c.loop-i.i + 1) c.args.ins.now c.requires.inputs c.loop-i-test.true (lit< tt) (omega arith) in
-    let h = channel-held c.args.self.now.inputs c.loop-i.i 2
-    (3 * c.loop-i.i + 2) c.args.ins.now c.requires.inputs c.loop-i-test.true (lit< tt) (omega arith) in
+    let held = channels-held _ _ _ c.requires.inputs c.loop-i-test.true in
+    let f = held.flow in
+    let g = held.conc in
+    let h = held.temp in
     let flow : ℤ = value Floor [] ins (flow_of (c.loop-i.i - 1)) in
     let a = c.add-flow.ensures in
     let b = c.mix-conc.ensures.between in

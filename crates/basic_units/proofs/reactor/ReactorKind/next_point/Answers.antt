@@ -23,6 +23,11 @@ gain-requires-clause-number c =
     let h = shared-wide _ c.share.result c.stir_point-stirred.ensures.wide.0 c.share.ensures.between in
     record { above = omega (arith, ints); below = omega (arith, ints) }
 
+pub keep-requires : goal.keep-requires
+keep-requires c =
+    let h = c.stir_point-stirred.ensures.wide.0 in
+    record { above = omega (arith, ints); below = omega (arith, ints) }
+
 pub bounds-ins-4 : goal.bounds-ins-4
 bounds-ins-4 c =
     let e = held-length input_limits c.args.ins.now c.requires.inputs in
