@@ -24,7 +24,8 @@ use Rattle.flowsheet.specs.Reading.{shown}
 use Rattle.flowsheet.specs.Limited.{KeepsLimits}
 use Rattle.plant_units.specs.declared.units.Unit.{Unit}
 use Rattle.plant_units.specs.declared.units.Unit.TheVariants as unit
-use Rattle.plant_units.specs.Units.{sheet_unit, view_of, state_limits_of, output_limits_of, IsUnitSound, is_instant, MayTake}
+use Rattle.plant_units.specs.Units.{sheet_unit, view_of, state_limits_of, output_limits_of, IsUnitSound, is_instant}
+use Rattle.plant_units.specs.Units.{MayTake}
 use Rattle.plant_units.specs.Steps.{steps, views}
 
 -- what a column reads from its states lies in the limits of its place
