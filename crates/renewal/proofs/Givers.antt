@@ -41,7 +41,8 @@ is-giver plan u x units h l e k =
       is = unit-is plan.parts u x l ∙ ap sheet_unit at;
     }
 
-pub some-giver : (plan : PlanOf) (u : ℕ) → IsPlan plan → u < length (units_of plan.parts) → (x : Unit) × IsGiver plan u x
+pub some-giver : (plan : PlanOf) (u : ℕ) → IsPlan plan →
+    u < length (units_of plan.parts) → (x : Unit) × IsGiver plan u x
 some-giver plan u h l =
     let y : Unit = item (units_of plan.parts) u l in
     let x : Unit = get_or (units_of plan.parts) u y in
@@ -69,13 +70,15 @@ module _ (plan : PlanOf) (u : ℕ) (x : Unit) (g : IsGiver plan u x) where
   pub row-taken : (t : ℕ) (tubes : List Tube) → t < plan.ticks → AreOpened plan (planned plan u).reads tubes →
       MayTake x (row_of tubes t)
   row-taken t tubes m o = g.sound.takes (row_of tubes t)
-      (opened-inside plan g.plan_is t (reads_of x) tubes m (subst (λ (reads : List ℕ). AreOpened plan reads tubes) reads-are o)
+      (opened-inside plan g.plan_is t (reads_of x) tubes m
+      (subst (λ (reads : List ℕ). AreOpened plan reads tubes) reads-are o)
       g.sound.reads)
 
   pub tubes-ticked : (t : ℕ) (tubes : List Tube) → t < plan.ticks → AreOpened plan (planned plan u).reads tubes →
       AllByRecursion (λ tube. t < length tube) tubes
   tubes-ticked t tubes m o =
-      opened-ticked plan g.plan_is t (reads_of x) tubes m (subst (λ (reads : List ℕ). AreOpened plan reads tubes) reads-are o)
+      opened-ticked plan g.plan_is t (reads_of x) tubes m
+      (subst (λ (reads : List ℕ). AreOpened plan reads tubes) reads-are o)
       g.sound.reads
 
   -- its steps are the definitions'
@@ -86,8 +89,10 @@ module _ (plan : PlanOf) (u : ℕ) (x : Unit) (g : IsGiver plan u x) where
 
   -- its states stay in their limits
   pub states-limited : (rows : ℕ → List Interval) (t : ℕ) →
-      AllInside (renewed_states (on_bands (plant_of plan.parts)) (planned plan u) (carried_into plan u) rows t) (state_limits_of x)
-  states-limited rows zero = subst (AllInside (carried_into plan u)) state-limits-are (g.plan_is.carried u g.there).inside
+      AllInside (renewed_states (on_bands (plant_of plan.parts)) (planned plan u) (carried_into plan u) rows t)
+      (state_limits_of x)
+  states-limited rows zero =
+      subst (AllInside (carried_into plan u)) state-limits-are (g.plan_is.carried u g.there).inside
   states-limited rows (suc t) =
       subst (λ (state : List Interval). AllInside state (state_limits_of x)) (steps-are _ (rows t))
       (steps-inside x _ (rows t) g.sound.sound)
@@ -100,11 +105,13 @@ module _ (plan : PlanOf) (u : ℕ) (x : Unit) (g : IsGiver plan u x) where
       ∙ sym (ap (λ (v : PlantUnit). shown (on_bands (plant_of plan.parts)) v p state ins) g.is)
 
   pub shown-wide : (state ins : List Interval) (p : ℕ) → AllInside state (state_limits_of x) →
-      length (slice_index_or (shown_rows x state ins) p []) ≡ length (slice_index_or (planned plan u).output_limits p [])
+      length (slice_index_or (shown_rows x state ins) p [])
+      ≡ length (slice_index_or (planned plan u).output_limits p [])
   shown-wide state ins p inside =
       ap length (row-is x state ins p)
       ∙ inside-length _ (slice_index_or (output_limits_of x) p []) (shown-inside x p state ins g.sound.sound inside)
       ∙ ap (λ limits. length (slice_index_or limits p [])) (sym output-limits-are)
 
-  pub shown-counted : (state ins : List Interval) → length (shown_rows x state ins) ≡ length (planned plan u).output_limits
+  pub shown-counted : (state ins : List Interval) →
+      length (shown_rows x state ins) ≡ length (planned plan u).output_limits
   shown-counted state ins = length-map (view_of x) _ ∙ ports-alike x ∙ ap length (sym output-limits-are)

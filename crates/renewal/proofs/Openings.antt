@@ -1,5 +1,6 @@
 -- The tubes that streams open with lie in the limits of their channels, and so do the tubes inside them.
-use Rattle.std.proofs.Common.{◌≡◌, ◌∙◌, ℕ, zero, suc, ◌<◌, List, [], ◌∷◌, length, map, replicate, get_or, sym, subst, ap, arith}
+use Rattle.std.proofs.Common.{◌≡◌, ◌∙◌, ℕ, zero, suc, ◌<◌, List, [], ◌∷◌, length, map, replicate, get_or, sym}
+use Rattle.std.proofs.Common.{subst, ap, arith}
 use Rattle.std.specs.Prelude.{flat_map, slice_index, slice_set}
 use Rattle.std.specs.List.{AllByRecursion}
 use Rattle.std.proofs.lemmas.List.{length-replicate}
@@ -25,7 +26,8 @@ use Rattle.renewal.proofs.Windows.{replicated}
 
 -- a stream that stands at a place: its source, its limits, and its feed
 pub found-source : (parts : FileParts) (s : ℕ) (stream : Stream) (streams : List Stream) (src : StreamSource) →
-    s < length (streams_of parts) → stream ≡ get_or streams s stream → streams ≡ streams_of parts → stream.source ≡ src →
+    s < length (streams_of parts) → stream ≡ get_or streams s stream → streams ≡ streams_of parts →
+    stream.source ≡ src →
     source_at parts s ≡ src
 found-source parts s stream streams src l e k d =
     at-map (λ (v : Stream). v.source) (streams_of parts) s stream (source.Feed 0) l
@@ -70,7 +72,8 @@ module _ (plan : PlanOf) (h : IsPlan plan) where
   opening-counted : (s : ℕ) → s < length (streams_of plan.parts) → length ((window_of plan).opening s) ≡ plan.ticks
   opening-counted s l = elim (from plan.parts s (plant-sound plan.parts h.plant) l) [
     | from_feed f e k ↦ ap length (opening-feed plan s f e) ∙ h.ticked f k.1
-    | from_port u p e k ↦ ap length (opening-port plan u p s h (l, e)) ∙ length-replicate plan.ticks (limits_at plan.parts s)
+    | from_port u p e k ↦ ap length (opening-port plan u p s h (l, e))
+        ∙ length-replicate plan.ticks (limits_at plan.parts s)
   ]
 
   -- so it is for tubes inside those that their streams open with
@@ -101,10 +104,12 @@ pub opening-opened : (plan : PlanOf) (streams : List ℕ) → AreOpened plan str
 opening-opened plan [] = tt
 opening-opened plan (s ∷ streams) = (within-itself ((window_of plan).opening s), opening-opened plan streams)
 
-pub set-opened : (plan : PlanOf) (streams : List ℕ) (tubes : List Tube) (p : ℕ) (tube : Tube) → AreOpened plan streams tubes →
+pub set-opened : (plan : PlanOf) (streams : List ℕ) (tubes : List Tube) (p : ℕ) (tube : Tube) →
+    AreOpened plan streams tubes →
     p < length streams → IsWithin tube ((window_of plan).opening (slice_index streams p)) →
     AreOpened plan streams (slice_set tubes p tube)
 set-opened plan [] tubes p tube o l h = absurd (omega arith)
 set-opened plan (s ∷ streams) [] p tube o l h = absurd o
 set-opened plan (s ∷ streams) (other ∷ tubes) zero tube o l h = (h, o.1)
-set-opened plan (s ∷ streams) (other ∷ tubes) (suc p) tube o l h = (o.0, set-opened plan streams tubes p tube o.1 (omega arith) h)
+set-opened plan (s ∷ streams) (other ∷ tubes) (suc p) tube o l h =
+    (o.0, set-opened plan streams tubes p tube o.1 (omega arith) h)

@@ -22,7 +22,8 @@ use Rattle.plant.proofs.Showing.{shown_rows, views-rows}
 use Rattle.renewal.specs.Plan.{PlanOf, carried_into, window_of}
 use Rattle.renewal.specs.Room.{planned, RenewalOf, HasRoomFor, renewal_of}
 use Rattle.renewal.specs.Ticks.{spread_at, AreFilled, IsRenewed, port_in}
-use Rattle.renewal.proofs.Givers.{IsGiver, states-limited, steps-are, state-limits-are, output-limits-are, views-are, shown-are, shown-wide, shown-counted}
+use Rattle.renewal.proofs.Givers.{IsGiver, states-limited, steps-are, state-limits-are, output-limits-are}
+use Rattle.renewal.proofs.Givers.{views-are, shown-are, shown-wide, shown-counted}
 use Rattle.renewal.proofs.Shapes.{shape-ticks, shape-wide, shapes-at, shapes-counted, same-tube}
 use Rattle.renewal.proofs.Spread.{AreFit, fit-each, fit-filled, fit-at, fit-shape, shape-set}
 
@@ -33,9 +34,11 @@ module _ (plan : PlanOf) (u : ℕ) (x : Unit) (g : IsGiver plan u x) where
 
   pub states-wide : (made : RenewalOf) (t : ℕ) → HasRoomFor plan u made → t ≤ plan.ticks →
       length (at made.states t) ≡ length (state_limits_of x)
-  states-wide made t room m = shape-wide made.states _ _ t room.states_shape (omega arith) ∙ ap length (state-limits-are plan u x g)
+  states-wide made t room m = shape-wide made.states _ _ t room.states_shape (omega arith)
+      ∙ ap length (state-limits-are plan u x g)
 
-  ports-counted : (made : RenewalOf) → HasRoomFor plan u made → length made.ports ≡ length (planned plan u).output_limits
+  ports-counted : (made : RenewalOf) → HasRoomFor plan u made →
+      length made.ports ≡ length (planned plan u).output_limits
   ports-counted made room = shapes-counted _ made.ports plan.ticks room.ports_shape
 
   port-ticks : (made : RenewalOf) (p : ℕ) → HasRoomFor plan u made → p < length made.ports →
@@ -44,7 +47,8 @@ module _ (plan : PlanOf) (u : ℕ) (x : Unit) (g : IsGiver plan u x) where
 
   port-wide : (made : RenewalOf) (p t : ℕ) → HasRoomFor plan u made → p < length made.ports → t < plan.ticks →
       length (at (port_in made p) t) ≡ length (slice_index_or (planned plan u).output_limits p [])
-  port-wide made p t room l m = shape-wide (port_in made p) _ _ t (shapes-at _ made.ports plan.ticks p room.ports_shape l) m
+  port-wide made p t room l m =
+      shape-wide (port_in made p) _ _ t (shapes-at _ made.ports plan.ticks p room.ports_shape l) m
 
   -- what it shows fits its tubes
   shown-fit : (made : RenewalOf) (t : ℕ) (ins : List Interval) → HasRoomFor plan u made → t < plan.ticks →
@@ -68,8 +72,10 @@ module _ (plan : PlanOf) (u : ℕ) (x : Unit) (g : IsGiver plan u x) (tubes : Li
   shown_at p t = renewed (on_bands (plant_of plan.parts)) (planned plan u) p (carried_into plan u) (row_of tubes) t
 
   -- the states that a tick starts from lie in their limits
-  pub states-inside : (made : RenewalOf) (n : ℕ) → IsRenewed plan u tubes n made → AllInside (at made.states n) (state_limits_of x)
-  states-inside made n r = subst (λ (state : List Interval). AllInside state (state_limits_of x)) (sym (r.stepped n (omega arith)))
+  pub states-inside : (made : RenewalOf) (n : ℕ) → IsRenewed plan u tubes n made →
+      AllInside (at made.states n) (state_limits_of x)
+  states-inside made n r =
+      subst (λ (state : List Interval). AllInside state (state_limits_of x)) (sym (r.stepped n (omega arith)))
       (states-limited plan u x g (row_of tubes) n)
 
   -- the bands that are carried in: there are few
@@ -81,7 +87,8 @@ module _ (plan : PlanOf) (u : ℕ) (x : Unit) (g : IsGiver plan u x) (tubes : Li
       inside-length (carried_into plan u) (state_limits_of x) (states-limited plan u x g (row_of tubes) 0)
       ∙ ap length (sym (state-limits-are plan u x g))
 
-  pub carried-wide : (made : RenewalOf) → HasRoomFor plan u made → length (carried_into plan u) ≡ length (at made.states 0)
+  pub carried-wide : (made : RenewalOf) → HasRoomFor plan u made →
+      length (carried_into plan u) ≡ length (at made.states 0)
   carried-wide made room =
       inside-length (carried_into plan u) (state_limits_of x) (states-limited plan u x g (row_of tubes) 0)
       ∙ sym (states-wide plan u x g made 0 room (omega arith))
@@ -120,9 +127,11 @@ module _ (plan : PlanOf) (u : ℕ) (x : Unit) (g : IsGiver plan u x) (tubes : Li
       AreFit n (shown_rows x (at made.states n) (row_of tubes n)) made.ports
   fits made n m r = shown-fit plan u x g made n (row_of tubes n) r.shape m (states-inside made n r)
 
-  after-shape : (made : RenewalOf) (n : ℕ) → n < plan.ticks → IsRenewed plan u tubes n made → HasRoomFor plan u (after made n)
+  after-shape : (made : RenewalOf) (n : ℕ) → n < plan.ticks → IsRenewed plan u tubes n made →
+      HasRoomFor plan u (after made n)
   after-shape made n m r = record {
-    ports_shape = ap (map (map length)) (spread-rows made n r) ∙ fit-shape n _ made.ports (fits made n m r) ∙ r.shape.ports_shape;
+    ports_shape = ap (map (map length)) (spread-rows made n r) ∙ fit-shape n _ made.ports (fits made n m r)
+        ∙ r.shape.ports_shape;
     states_shape =
         shape-set made.states (n + 1) (steps x (at made.states n) (row_of tubes n))
         (inside-length _ (state_limits_of x) (steps-inside x (at made.states n) (row_of tubes n) g.sound.sound)
@@ -136,7 +145,8 @@ module _ (plan : PlanOf) (u : ℕ) (x : Unit) (g : IsGiver plan u x) (tubes : Li
       ap (λ ports. slice_index_or ports p []) (spread-rows made n r)
       ∙ fit-at n _ made.ports p (fits made n m r) l
       ∙ ap (slice_set (port_in made p) n) (shown-are plan u x g (at made.states n) (row_of tubes n) p
-      ∙ ap (λ state. shown (on_bands (plant_of plan.parts)) (planned plan u) p state (row_of tubes n)) (r.stepped n (omega arith)))
+      ∙ ap (λ state. shown (on_bands (plant_of plan.parts)) (planned plan u) p state (row_of tubes n))
+      (r.stepped n (omega arith)))
 
   after-counted : (made : RenewalOf) (n : ℕ) → n < plan.ticks → IsRenewed plan u tubes n made →
       length (after made n).ports ≡ length made.ports
@@ -152,7 +162,8 @@ module _ (plan : PlanOf) (u : ℕ) (x : Unit) (g : IsGiver plan u x) (tubes : Li
         ap (λ tube. at tube t) (after-port made n p m r there)
         ∙ elim (cases_eq t n) [
           | inl e ↦
-              get_or-set_at (port_in made p) n t (shown_at p n) [] e (omega (arith, port-ticks plan u x g made p r.shape there))
+              get_or-set_at (port_in made p) n t (shown_at p n) [] e
+              (omega (arith, port-ticks plan u x g made p r.shape there))
               ∙ ap (shown_at p) (sym e)
           | inr ne ↦ get_or-set_other (port_in made p) n t (shown_at p n) [] ne ∙ r.shown p t there (omega arith)
         ];
@@ -163,7 +174,8 @@ module _ (plan : PlanOf) (u : ℕ) (x : Unit) (g : IsGiver plan u x) (tubes : Li
               (let next : suc n ≡ t = omega arith in
               get_or-set_at made.states (n + 1) t new [] e (omega (arith, states-counted plan u x g made r.shape))
               ∙ steps-are plan u x g (at made.states n) (row_of tubes n)
-              ∙ ap (λ state. stepped (on_bands (plant_of plan.parts)) (planned plan u) state (row_of tubes n)) (r.stepped n (omega arith))
+              ∙ ap (λ state. stepped (on_bands (plant_of plan.parts)) (planned plan u) state (row_of tubes n))
+              (r.stepped n (omega arith))
               ∙ ap states_at next)
           | inr ne ↦ get_or-set_other made.states (n + 1) t new [] ne ∙ r.stepped t (omega arith)
         ];
@@ -177,16 +189,21 @@ module _ (plan : PlanOf) (u : ℕ) (x : Unit) (g : IsGiver plan u x) (tubes : Li
       ap (λ (tubes : List Tube). let made : RenewalOf = record { ports = tubes; states = states } in made) e
       ∙ ap (λ (tube : Tube). let made : RenewalOf = record { ports = others; states = tube } in made) d
 
-  whole-ports : (made : RenewalOf) → IsRenewed plan u tubes plan.ticks made → made.ports ≡ (renewal_of plan u tubes).ports
+  whole-ports : (made : RenewalOf) → IsRenewed plan u tubes plan.ticks made →
+      made.ports ≡ (renewal_of plan u tubes).ports
   whole-ports made r =
       let count : ℕ = length (planned plan u).view in
-      let counted : length made.ports ≡ count = ports-counted plan u x g made r.shape ∙ ap length (output-limits-are plan u x g)
+      let counted : length made.ports ≡ count = ports-counted plan u x g made r.shape
+      ∙ ap length (output-limits-are plan u x g)
       ∙ sym (ports-alike x) ∙ ap length (sym (views-are plan u x g)) in
       ext_get_or [] made.ports (renewal_of plan u tubes).ports
       (counted ∙ sym (length-map-range_with_len (λ p. renewal (window_of plan) u p tubes) 0 count))
-      (λ p l. same-tube (port_in made p) (shown_at p) plan.ticks (port-ticks plan u x g made p r.shape l) (λ t m. r.shown p t l m)
-      ∙ sym (get_or-map-range_with_len (λ p. renewal (window_of plan) u p tubes) 0 count p p [] (omega arith) (omega arith)))
+      (λ p l. same-tube (port_in made p) (shown_at p) plan.ticks (port-ticks plan u x g made p r.shape l)
+      (λ t m. r.shown p t l m)
+      ∙ sym (get_or-map-range_with_len (λ p. renewal (window_of plan) u p tubes) 0 count p p [] (omega arith)
+      (omega arith)))
 
   pub renewed-whole : (made : RenewalOf) → IsRenewed plan u tubes plan.ticks made → made ≡ renewal_of plan u tubes
   renewed-whole made r = same-record made.ports _ made.states _ (whole-ports made r)
-      (same-tube made.states states_at (plan.ticks + 1) (states-counted plan u x g made r.shape) (λ t m. r.stepped t (omega arith)))
+      (same-tube made.states states_at (plan.ticks + 1) (states-counted plan u x g made r.shape)
+      (λ t m. r.stepped t (omega arith)))

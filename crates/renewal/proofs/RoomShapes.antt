@@ -60,7 +60,9 @@ module _ (plan : PlanOf) (u : ℕ) (x : Unit) (g : IsGiver plan u x) where
       ∙ sym (at-map wide (output_limits_of x) p [] [] limited))
       ∙ ap (map wide) (sym (output-limits-are plan u x g))
 
-  pub states-shape : (n : ℕ) → map length (replicate n (opening_of x)) ≡ replicate n (length (planned plan u).state_limits)
+  pub states-shape : (n : ℕ) →
+      map length (replicate n (opening_of x)) ≡ replicate n (length (planned plan u).state_limits)
   states-shape n =
       replicate-shape n (opening_of x)
-      ∙ ap (replicate n) (inside-length (opening_of x) (state_limits_of x) g.sound.starts ∙ ap length (sym (state-limits-are plan u x g)))
+      ∙ ap (replicate n) (inside-length (opening_of x) (state_limits_of x) g.sound.starts
+      ∙ ap length (sym (state-limits-are plan u x g)))

@@ -1,5 +1,6 @@
 -- Rows that are gathered from tubes, and spread over them, one tube after another.
-use Rattle.std.proofs.Common.{◌≡◌, ◌∙◌, ℕ, zero, suc, ◌+◌, ◌<◌, ◌≤◌, List, [], ◌∷◌, ◌++◌, length, take, drop, map, get_or, refl, sym, subst, ap, arith}
+use Rattle.std.proofs.Common.{◌≡◌, ◌∙◌, ℕ, zero, suc, ◌+◌, ◌<◌, ◌≤◌, List, [], ◌∷◌, ◌++◌, length, take, drop, map}
+use Rattle.std.proofs.Common.{get_or, refl, sym, subst, ap, arith}
 use Rattle.std.specs.Prelude.{slice_index_or, slice_set}
 use Rattle.std.specs.List.{AllByRecursion}
 use Rattle.std.proofs.lemmas.List.{drop_more, append_assoc, length-append, length-take-le, length-drop}
@@ -29,7 +30,8 @@ pub gathering-more : (tubes : List Tube) (t i place k : ℕ) (ins channels : Lis
     IsGathering tubes t i place ins → channels ≡ at (get_or tubes i []) t → k ≡ length channels →
     IsGathering tubes t (i + 1) (place + length channels) (put_mid place k ins channels)
 gathering-more tubes t i place k ins channels h g e d =
-    let ticked = subst (λ (rest : List Tube). AllByRecursion (λ tube. t < length tube) rest) (drop_more tubes i [] h) g.ticked in
+    let ticked = subst (λ (rest : List Tube). AllByRecursion (λ tube. t < length tube) rest)
+    (drop_more tubes i [] h) g.ticked in
     let more : row_of (drop i tubes) t ≡ channels ++ row_of (drop (i + 1) tubes) t =
     ap (λ rest. row_of rest t) (drop_more tubes i [] h) ∙ ap (λ cs. cs ++ row_of (drop (i + 1) tubes) t) (sym e) in
     let lengths = ap length more ∙ length-append channels (row_of (drop (i + 1) tubes) t) in
@@ -84,8 +86,10 @@ fit-filled t (row ∷ rows) (tube ∷ tubes) f = (
 )
 
 -- each tube has its row at the tick
-pub fit-at : (t : ℕ) (rows : List (List Interval)) (tubes : List Tube) (p : ℕ) → AreFit t rows tubes → p < length tubes →
-    slice_index_or (spread_at t (outputs rows) tubes) p [] ≡ slice_set (slice_index_or tubes p []) t (slice_index_or rows p [])
+pub fit-at : (t : ℕ) (rows : List (List Interval)) (tubes : List Tube) (p : ℕ) → AreFit t rows tubes →
+    p < length tubes →
+    slice_index_or (spread_at t (outputs rows) tubes) p []
+    ≡ slice_set (slice_index_or tubes p []) t (slice_index_or rows p [])
 fit-at t [] [] p f l = absurd (omega arith)
 fit-at t [] (tube ∷ tubes) p f l = absurd f
 fit-at t (row ∷ rows) [] p f l = absurd f
@@ -106,7 +110,10 @@ fit-shape t [] (tube ∷ tubes) f = absurd f
 fit-shape t (row ∷ rows) [] f = absurd f
 fit-shape t (row ∷ rows) (tube ∷ tubes) f =
     let head : map length (slice_set tube t (take (length (at tube t)) (row ++ outputs rows))) ≡ map length tube =
-    ap (λ bands. map length (slice_set tube t bands)) (first-taken row (outputs rows) _ f.1) ∙ shape-set tube t row f.1 in
-    let rest : map (map length) (spread_at t (drop (length (at tube t)) (row ++ outputs rows)) tubes) ≡ map (map length) tubes =
-    ap (λ bands. map (map length) (spread_at t bands tubes)) (first-dropped row (outputs rows) _ f.1) ∙ fit-shape t rows tubes f.2 in
+    ap (λ bands. map length (slice_set tube t bands)) (first-taken row (outputs rows) _ f.1)
+    ∙ shape-set tube t row f.1 in
+    let rest : map (map length) (spread_at t (drop (length (at tube t)) (row ++ outputs rows)) tubes)
+    ≡ map (map length) tubes =
+    ap (λ bands. map (map length) (spread_at t bands tubes)) (first-dropped row (outputs rows) _ f.1)
+    ∙ fit-shape t rows tubes f.2 in
     cc

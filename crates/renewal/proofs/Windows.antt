@@ -1,5 +1,6 @@
 -- The window of a plan can be relaxed.
-use Rattle.std.proofs.Common.{◌≡◌, ℕ, zero, suc, ◌<◌, List, [], length, slice_index_or, replicate, refl, sym, subst, ap, ◌∙◌, arith}
+use Rattle.std.proofs.Common.{◌≡◌, ℕ, zero, suc, ◌<◌, List, [], length, slice_index_or, replicate, refl, sym, subst}
+use Rattle.std.proofs.Common.{ap, ◌∙◌, arith}
 use Rattle.std.proofs.lemmas.List.{length-replicate}
 use Rattle.quant.specs.Interval.{Interval, AllInside}
 use Rattle.flowsheet.specs.Plant as sheet
@@ -25,9 +26,12 @@ use Rattle.renewal.specs.Plan.{PlanOf, IsPlan, window_of, carried_into, fed_by, 
 pub tube-at : (tube : Tube) (n : ℕ) → length tube ≡ n → tube_of (at tube) n ≡ tube
 tube-at tube n e = within-both _ _
     (within-each _ tube (length-tube_of (at tube) n ∙ sym e)
-    (λ t l. subst (λ row. AllInside row (at tube t)) (sym (at-tube_of (at tube) n t (subst (λ k. t < k) (length-tube_of (at tube) n) l))) (inside-itself (at tube t))))
+    (λ t l. subst (λ row. AllInside row (at tube t))
+    (sym (at-tube_of (at tube) n t (subst (λ k. t < k) (length-tube_of (at tube) n) l)))
+    (inside-itself (at tube t))))
     (within-each tube _ (e ∙ sym (length-tube_of (at tube) n))
-    (λ t l. subst (AllInside (at tube t)) (sym (at-tube_of (at tube) n t (subst (λ k. t < k) e l))) (inside-itself (at tube t))))
+    (λ t l. subst (AllInside (at tube t)) (sym (at-tube_of (at tube) n t (subst (λ k. t < k) e l)))
+    (inside-itself (at tube t))))
 
 -- the same bands at each tick
 pub replicated : (bands : List Interval) (n t : ℕ) → t < n → at (replicate n bands) t ≡ bands
@@ -54,13 +58,15 @@ module _ (plan : PlanOf) (h : IsPlan plan) where
   }
 
   -- a stream that comes from a feed comes from one that is there
-  pub feed-there : (s f : ℕ) → s < length (plant_of plan.parts).streams → sheet.origin_of (plant_of plan.parts) s ≡ sheet.feed f →
+  pub feed-there : (s f : ℕ) → s < length (plant_of plan.parts).streams →
+      sheet.origin_of (plant_of plan.parts) s ≡ sheet.feed f →
       f < length plan.parts.feeds
   feed-there s f l o = elim (from plan.parts s (plant-sound plan.parts h.plant) (stream-there s l)) [
     | from_feed g e k ↦
         subst (λ n. n < length plan.parts.feeds)
         (ap (λ origin. feed-of origin 0) (sym (origin-is plan.parts s (source.Feed g) e) ∙ o)) k.1
-    | from_port u p e k ↦ (let clash : sheet.port u p ≡ sheet.feed f = sym (origin-is plan.parts s (source.Port u p) e) ∙ o in cc)
+    | from_port u p e k ↦
+        (let clash : sheet.port u p ≡ sheet.feed f = sym (origin-is plan.parts s (source.Port u p) e) ∙ o in cc)
   ]
 
   pub bands : AreBands (plant_of plan.parts) (carried_into plan) (λ t f. at (fed_by plan f) t) plan.ticks
@@ -70,21 +76,26 @@ module _ (plan : PlanOf) (h : IsPlan plan) where
   }
 
   -- the tube of a feed's stream
-  pub fed-tube : (s f : ℕ) → s < length (plant_of plan.parts).streams → sheet.origin_of (plant_of plan.parts) s ≡ sheet.feed f →
+  pub fed-tube : (s f : ℕ) → s < length (plant_of plan.parts).streams →
+      sheet.origin_of (plant_of plan.parts) s ≡ sheet.feed f →
       opening_from plan (sheet.origin_of (plant_of plan.parts) s) ≡ tube_of (λ t. at (fed_by plan f) t) plan.ticks
-  fed-tube s f l o = ap (opening_from plan) o ∙ sym (tube-at (fed_by plan f) plan.ticks (h.ticked f (feed-there s f l o)))
+  fed-tube s f l o = ap (opening_from plan) o
+      ∙ sym (tube-at (fed_by plan f) plan.ticks (h.ticked f (feed-there s f l o)))
 
   run-at : (s t : ℕ) → t < plan.ticks → at (run_tube (window_of plan) s) t
-      ≡ run_streams (on_bands (plant_of plan.parts)) (plant_of plan.parts) (carried_into plan) (λ q f. at (fed_by plan f) q) t s
+      ≡ run_streams (on_bands (plant_of plan.parts)) (plant_of plan.parts) (carried_into plan)
+      (λ q f. at (fed_by plan f) q) t s
   run-at s t m = at-tube_of _ plan.ticks t m
 
-  holds-from : (s : ℕ) (origin : sheet.Origin) → s < length (plant_of plan.parts).streams → sheet.origin_of (plant_of plan.parts) s ≡ origin →
+  holds-from : (s : ℕ) (origin : sheet.Origin) → s < length (plant_of plan.parts).streams →
+      sheet.origin_of (plant_of plan.parts) s ≡ origin →
       IsWithin (run_tube (window_of plan) s) (opening_from plan origin)
   holds-from s (sheet.feed f) l o = within-each _ _
       (length-tube_of _ plan.ticks ∙ sym (h.ticked f (feed-there s f l o)))
       (λ t m. (let n : t < plan.ticks = subst (λ k. t < k) (length-tube_of _ plan.ticks) m in
       subst (λ row. AllInside row (at (fed_by plan f) t))
-      (sym (run-at s t n ∙ run-fed (on_bands (plant_of plan.parts)) (plant_of plan.parts) (carried_into plan) (λ q g. at (fed_by plan g) q) t s f o))
+      (sym (run-at s t n ∙ run-fed (on_bands (plant_of plan.parts)) (plant_of plan.parts) (carried_into plan)
+      (λ q g. at (fed_by plan g) q) t s f o))
       (inside-itself (at (fed_by plan f) t))))
   holds-from s (sheet.port u p) l o = within-each _ _
       (length-tube_of _ plan.ticks ∙ sym (length-replicate plan.ticks _))

@@ -1,4 +1,5 @@
--- A window plan: a built plant, some of its ticks, the bands carried into each unit's states, and the tubes of its feeds.
+-- A window plan: a built plant, some of its ticks, the bands carried into each unit's states, and the tubes of its
+-- feeds.
 use Rattle.std.specs.Prelude.{◌≡◌, ℕ, ◌+◌, ◌<◌, ◌≤◌, List, [], length, replicate, slice_index_or}
 use Rattle.quant.specs.Interval.{Interval, AllBands, AllInside}
 use Rattle.flowsheet.specs.Plant.{Origin, feed, port, unit_at, origin_of}
@@ -29,7 +30,8 @@ fed_by plan f = slice_index_or plan.feeds f []
 -- the tube that a stream opens with: a feed's own, or the limits of a unit's output at each tick
 abbrev pub opening_from : PlanOf → Origin → Tube
 opening_from plan (feed f) = fed_by plan f
-opening_from plan (port u p) = replicate plan.ticks (slice_index_or (unit_at (plant_of plan.parts) u).output_limits p [])
+opening_from plan (port u p) =
+    replicate plan.ticks (slice_index_or (unit_at (plant_of plan.parts) u).output_limits p [])
 
 -- the window that the plan is
 abbrev pub window_of : PlanOf → Window

@@ -28,10 +28,12 @@ pub record RenewalOf : Type 0 where
 abbrev pub renewal_of : PlanOf → ℕ → List Tube → RenewalOf
 renewal_of plan u tubes = record {
   ports = map (λ p. renewal (window_of plan) u p tubes) (range_with_len 0 (length (planned plan u).view));
-  states = tube_of (renewed_states (on_bands (plant_of plan.parts)) (planned plan u) (carried_into plan u) (row_of tubes)) (plan.ticks + 1);
+  states = tube_of (renewed_states (on_bands (plant_of plan.parts)) (planned plan u) (carried_into plan u)
+      (row_of tubes)) (plan.ticks + 1);
 }
 
 -- room for it: as many ticks, and at each as many channels and states as the unit has limits for
 pub record HasRoomFor (plan : PlanOf) (u : ℕ) (room : RenewalOf) : Type 0 where
-  pub ports_shape : map (map length) room.ports ≡ map (λ limits. replicate plan.ticks (length limits)) (planned plan u).output_limits
+  pub ports_shape : map (map length) room.ports
+      ≡ map (λ limits. replicate plan.ticks (length limits)) (planned plan u).output_limits
   pub states_shape : map length room.states ≡ replicate (plan.ticks + 1) (length (planned plan u).state_limits)

@@ -11,7 +11,8 @@ pub fn windows_are_open()
 
 /// A unit may be renewed from the tubes that its streams open with, and from tubes inside them that take their places.
 pub fn tubes_stay_opened()
-    ensures opening { (plan : PlanOf) (streams : List ℕ) → AreOpened plan streams (map (window_of plan).opening streams) }
+    ensures opening { (plan : PlanOf) (streams : List ℕ) →
+        AreOpened plan streams (map (window_of plan).opening streams) }
     ensures read { (plan : PlanOf) (streams : List ℕ) (tubes : List Tube) (p : ℕ) (tube : Tube) →
         AreOpened plan streams tubes → p < length streams →
         IsWithin tube ((window_of plan).opening (slice_index streams p)) →

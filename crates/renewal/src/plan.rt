@@ -41,8 +41,20 @@ impl<'p> WindowPlan<'p> {
 
     /// A window of `ticks` ticks from tick `first` on.
     pub fn new(plant: &'p Plant, first: u32, ticks: u32, carried: Carried, feeds: FeedTubes) -> Self
-        requires { IsPlan (record { parts = plant.now; first = first; ticks = ticks; carried = carried; feeds = feeds }) }
-        ensures { result ≡ record { parts = plant.now; first = first; ticks = ticks; carried = carried; feeds = feeds } }
+        requires { IsPlan (record {
+          parts = plant.now;
+          first = first;
+          ticks = ticks;
+          carried = carried;
+          feeds = feeds;
+        }) }
+        ensures { result ≡ record {
+          parts = plant.now;
+          first = first;
+          ticks = ticks;
+          carried = carried;
+          feeds = feeds;
+        } }
     {
         WindowPlan {
             plant,

@@ -57,8 +57,9 @@ fn renew_tick(
     outputs.step(giver, tick, &ins[..count], new);
 }
 
-/// Renews one unit over the window from these tubes of the streams that it reads: it starts from the bands that are carried
-/// into its states, shows its outputs at each tick, and steps its states by the inputs of that tick. It takes no memory.
+/// Renews one unit over the window from these tubes of the streams that it reads: it starts from the bands that are
+/// carried into its states, shows its outputs at each tick, and steps its states by the inputs of that tick. It takes
+/// no memory.
 pub fn renew(plan: &WindowPlan<'_>, unit: u32, inputs: &Inputs, outputs: &mut Outputs)
     requires unit { unit < length (units_of plan.now.parts) }
     requires inputs { AreOpened plan.now (planned plan.now unit).reads inputs.now }

@@ -172,8 +172,8 @@ impl Outputs {
         spread_at(outs, tick, self.tubes.as_mut_slice());
     }
 
-    /// Puts what a unit steps to, from its states and these inputs at a tick, in the place of its states at the next; `new` has
-    /// room for them.
+    /// Puts what a unit steps to, from its states and these inputs at a tick, in the place of its states at the next;
+    /// `new` has room for them.
     pub(crate) fn step(&mut self, unit: &Unit, tick: u32, ins: &[Band], new: &mut [Band])
         requires sound { IsUnitSound unit.now }
         requires tick { tick + 1 < length self.old.states }

@@ -19,12 +19,22 @@ use Rattle.window_tests.specs.Feeds.{steady_tubes}
 
 abbrev first_ticks : FileParts → ℕ → PlanOf
 first_ticks parts n =
-    record { parts = parts; first = 0; ticks = n; carried = map opening_of (units_of parts); feeds = steady_tubes parts n }
+    record {
+      parts = parts;
+      first = 0;
+      ticks = n;
+      carried = map opening_of (units_of parts);
+      feeds =
+          steady_tubes parts n;
+    }
 
-fed-is : (parts : FileParts) (n f : ℕ) → f < length parts.feeds → fed_by (first_ticks parts n) f ≡ replicate n (given_bands parts 0 f)
-fed-is parts n f l = get_or-map-range_with_len (λ f. replicate n (given_bands parts 0 f)) 0 (length parts.feeds) f f [] l (omega arith)
+fed-is : (parts : FileParts) (n f : ℕ) → f < length parts.feeds →
+    fed_by (first_ticks parts n) f ≡ replicate n (given_bands parts 0 f)
+fed-is parts n f l =
+    get_or-map-range_with_len (λ f. replicate n (given_bands parts 0 f)) 0 (length parts.feeds) f f [] l (omega arith)
 
-first-plan : (parts : FileParts) (n : ℕ) → IsPlant parts → 1 ≤ n → n ≤ 64 → n ≤ parts.ticks → IsPlan (first_ticks parts n)
+first-plan : (parts : FileParts) (n : ℕ) → IsPlant parts → 1 ≤ n → n ≤ 64 → n ≤ parts.ticks →
+    IsPlan (first_ticks parts n)
 first-plan parts n plant some few inside = record {
   plant = plant;
   some = some;
@@ -33,7 +43,11 @@ first-plan parts n plant some few inside = record {
   units = length-map (units_of parts) opening_of;
   carried = λ u l.
       let there : u < length (plant_of parts).units = omega (arith, units-counted parts) in
-      record { numbers = (parts-bands parts n plant).states u there; inside = (parts-limited parts plant).starts u there };
+      record {
+        numbers = (parts-bands parts n plant).states u there;
+        inside =
+            (parts-limited parts plant).starts u there;
+      };
   feeds = length-map-range_with_len (λ f. replicate n (given_bands parts 0 f)) 0 (length parts.feeds);
   ticked = λ f l. ap length (fed-is parts n f l) ∙ length-replicate n (given_bands parts 0 f);
   fed = λ f t l m.

@@ -1,9 +1,12 @@
 //! Renewals of a tank and a mixer behind the feeds of `plant_texts`: 10 to 12 mL a tick at 100 mg/L and 300,000 mK.
 
+ghost use Rattle.std.specs.Prelude.{◌≡◌, slice_set};
+ghost use Rattle.std.specs.Bool.{OnTrue};
+
 use crate::windows::window_in;
 use plant_texts::{LOW_FLOW, MIXER, TANK, Unit, plant_with};
 use quant::Band;
-use renewal::{Inputs, Outputs, WindowPlan, renew, tubes_stay_opened};
+use renewal::{Carried, Inputs, Outputs, WindowPlan, renew, tubes_stay_opened};
 use std::alloc::Global;
 use std::process::Abort;
 use std::test::Fail;
@@ -151,5 +154,47 @@ fn renewal_from_a_narrower_tube(rt: HostRuntime) -> Result<(), Fail> {
     let outputs = renewed_from(rt.alloc(), &plan, 0, &tube)?;
     assert_eq!(rt; outputs.as_slice().len(), 2);
     has_rows(&rt, outputs.port(1), &NARROWER);
+    Ok(())
+}
+
+/// Writes a tube into the first input in place, where it has the shape.
+fn write_first(inputs: &mut Inputs, tube: &Tube) -> bool
+    ensures { OnTrue result (inputs.new ≡ slice_set inputs.old 0 tube.now) }
+{
+    if inputs.as_slice().is_empty() || !inputs.as_slice()[0].fits(tube) {
+        return false;
+    }
+    inputs.port(0).copy_from(tube);
+    true
+}
+
+/// The first state of the first unit that is carried into a window.
+fn first_carried(plan: &WindowPlan<'_>) -> Option<Band> {
+    if plan.plant().units().is_empty() || plan.carried().unit(0).is_empty() {
+        return None;
+    }
+    Some(plan.carried().at(0, 0))
+}
+
+/// Room for what the first unit reads.
+fn first_inputs(alloc: Global, plan: &WindowPlan<'_>) -> Result<Inputs, Fail> {
+    if plan.plant().units().is_empty() {
+        return Err("no unit".into());
+    }
+    Ok(Inputs::room(alloc, plan, 0)?)
+}
+
+#[test]
+fn a_window_tells_what_it_is_made_of(rt: HostRuntime) -> Result<(), Fail> {
+    let text = plant_with(rt.alloc(), &[WORKED_TANK], &[LOW_FLOW])?;
+    let plant = plant_in(rt.alloc(), &text)?;
+    let plan = window_in(rt.alloc(), &plant, 3)?;
+    assert_eq!(rt; (plan.first(), plan.ticks()), (0, 3));
+    assert_eq!(rt; first_carried(&plan), Some(Band::point(1_000)));
+    let mut inputs = first_inputs(rt.alloc(), &plan)?;
+    let fed = plan.feeds().as_slice().first().ok_or("no feed")?;
+    assert!(rt; write_first(&mut inputs, fed));
+    assert_eq!(rt; inputs.as_slice().len(), 2);
+    assert_eq!(rt; Carried::opening(rt.alloc(), &plant)?.into_vec().len(), 1);
     Ok(())
 }

@@ -33,7 +33,8 @@ fn steady_tubes(alloc: Global, plant: &Plant, ticks: u32) -> Result<FeedTubes, F
     Ok(FeedTubes::new(tubes))
 }
 
-/// The window of a plant's first ticks, from its opening bands, in which each feed keeps the bands that it has at tick 0.
+/// The window of a plant's first ticks, from its opening bands, in which each feed keeps the bands that it has at
+/// tick 0.
 pub fn window_in<'p>(alloc: Global, plant: &'p Plant, ticks: u32) -> Result<WindowPlan<'p>, Fail> {
     if ticks == 0 || 64 < ticks || plant.parts().ticks < ticks {
         return Err("no window of the plant".into());

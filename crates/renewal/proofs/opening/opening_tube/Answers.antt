@@ -15,7 +15,8 @@ pub bounds-as_slice-feed : goal.bounds-as_slice-feed
 bounds-as_slice-feed c =
     let plan = c.args.plan.now in
     let streams = c.streams.ensures ∙ ap streams_of c.plant.ensures.plant in
-    let e = found-source plan.parts c.args.stream c.index-streams-stream.result _ _ c.requires c.index-streams-stream.is streams c.in-Feed.is in
+    let e = found-source plan.parts c.args.stream c.index-streams-stream.result _ _ c.requires
+    c.index-streams-stream.is streams c.in-Feed.is in
     let below = feed-below plan c.args.stream c.in-Feed.feed c.plant.ensures.plan c.requires e in
     omega (arith, ap length (c.as_slice.ensures ∙ c.feeds.ensures), c.plant.ensures.plan.feeds, below)
 
@@ -24,11 +25,13 @@ returns-in-Feed c =
     let plan = c.args.plan.now in
     let f = c.in-Feed.feed in
     let streams = c.streams.ensures ∙ ap streams_of c.plant.ensures.plant in
-    let e = found-source plan.parts c.args.stream c.index-streams-stream.result _ _ c.requires c.index-streams-stream.is streams c.in-Feed.is in
+    let e = found-source plan.parts c.args.stream c.index-streams-stream.result _ _ c.requires
+    c.index-streams-stream.is streams c.in-Feed.is in
     let below = feed-below plan c.args.stream f c.plant.ensures.plan c.requires e in
     let there : f < length plan.feeds = omega (arith, c.plant.ensures.plan.feeds, below) in
     let found : c.index-as_slice-feed.result ≡ fed_by plan f =
-    item-there f c.index-as_slice-feed.result _ plan.feeds c.index-as_slice-feed.is (c.as_slice.ensures ∙ c.feeds.ensures)
+    item-there f c.index-as_slice-feed.result _ plan.feeds c.index-as_slice-feed.is
+    (c.as_slice.ensures ∙ c.feeds.ensures)
     ∙ get_or_default plan.feeds f _ [] there in
     subst (λ (opening : Tube). IfOk c.copied.result (λ tube. tube ≡ opening))
     (found ∙ sym (opening-feed plan c.args.stream f e)) c.copied.ensures
@@ -38,7 +41,8 @@ returns-in_ok-limits-in-Port c =
     let plan = c.args.plan.now in
     let stream = c.index-streams-stream.result in
     let streams = c.streams.ensures ∙ ap streams_of c.plant.ensures.plant in
-    let e = found-source plan.parts c.args.stream stream _ _ c.requires c.index-streams-stream.is streams c.in-Port.is in
+    let e = found-source plan.parts c.args.stream stream _ _ c.requires c.index-streams-stream.is streams
+    c.in-Port.is in
     let limits = c.as_slice-in-Port.ensures ∙ c.in_ok-limits-in-Port.ensures
     ∙ ap (λ (parts : FileParts). stream_limits parts stream) c.plant-in-Port.ensures.plant
     ∙ found-limits plan.parts c.args.stream stream _ c.requires c.index-streams-stream.is streams in

@@ -16,7 +16,8 @@ use Rattle.renewal.proofs.renewing.renew_tick.Goals as goal
 
 -- what stands after the two steps, from what stands between them
 abbrev after_step : Unit → ℕ → List Interval → RenewalOf → RenewalOf
-after_step x n row made = record { ports = made.ports; states = slice_set made.states (n + 1) (steps x (at made.states n) row) }
+after_step x n row made =
+    record { ports = made.ports; states = slice_set made.states (n + 1) (steps x (at made.states n) row) }
 
 abbrev after_tick : Unit → ℕ → RenewalOf → List Interval → RenewalOf
 after_tick x n made row = record {
@@ -30,7 +31,8 @@ gather_at-count-requires-clause-ticked c =
     let x = c.index-units-unit.result in
     let g = is-giver plan c.args.unit x _ c.plant.ensures.plan c.requires.unit c.index-units-unit.is
     (c.units.ensures ∙ ap units_of c.plant.ensures.plant) in
-    rw c.as_slice.ensures (tubes-ticked plan c.args.unit x g c.args.tick c.args.inputs.now c.requires.tick c.requires.inputs)
+    rw c.as_slice.ensures
+    (tubes-ticked plan c.args.unit x g c.args.tick c.args.inputs.now c.requires.tick c.requires.inputs)
 
 pub gather_at-count-requires-clause-room : goal.gather_at-count-requires-clause-room
 gather_at-count-requires-clause-room c =
@@ -138,7 +140,8 @@ step-requires-clause-next c =
     let g = is-giver plan c.args.unit x _ c.plant.ensures.plan c.requires.unit c.index-units-unit.is
     (c.units.ensures ∙ ap units_of c.plant.ensures.plant) in
     ap (λ (made : RenewalOf). length (at made.states (c.args.tick + 1))) c.show.ensures
-    ∙ states-wide plan c.args.unit x g c.args.outputs.now (c.args.tick + 1) c.requires.renewed.shape (omega (arith, c.requires.tick))
+    ∙ states-wide plan c.args.unit x g c.args.outputs.now (c.args.tick + 1) c.requires.renewed.shape
+    (omega (arith, c.requires.tick))
 
 pub step-requires-clause-room : goal.step-requires-clause-room
 step-requires-clause-room c =

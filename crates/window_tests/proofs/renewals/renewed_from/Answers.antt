@@ -22,8 +22,10 @@ renew-requires-clause-inputs c =
     item-there 0 c.index-as_slice-0.result c.as_slice-2.result.now (map opening reads) c.index-as_slice-0.is
     (c.as_slice-2.ensures ∙ c.in_ok-inputs.ensures)
     ∙ at-map opening reads 0 0 c.index-as_slice-0.result there in
-    let inside : is_within c.args.tube.now c.index-as_slice-0.result ≡ true = grind (arith, c.inside.ensures, c.if-not-inside.false) in
-    subst (AreOpened plan reads) (sym (c.read.ensures ∙ ap (λ (tubes : List Tube). slice_set tubes 0 c.args.tube.now) c.in_ok-inputs.ensures))
+    let inside : is_within c.args.tube.now c.index-as_slice-0.result ≡ true =
+    grind (arith, c.inside.ensures, c.if-not-inside.false) in
+    subst (AreOpened plan reads)
+    (sym (c.read.ensures ∙ ap (λ (tubes : List Tube). slice_set tubes 0 c.args.tube.now) c.in_ok-inputs.ensures))
     (c.tubes_stay_opened.ensures.read plan reads (map opening reads) 0 c.args.tube.now
     (c.tubes_stay_opened.ensures.opening plan reads) there
     (subst (IsWithin c.args.tube.now) first (within-yes c.args.tube.now _ inside)))

@@ -16,7 +16,8 @@ opening_tube-requires c =
     let g = is-giver plan c.args.unit x _ c.plant.ensures.plan c.requires c.index-units-unit.is
     (c.units.ensures ∙ ap units_of c.plant.ensures.plant) in
     below-at (length (streams_of plan.parts)) c.inputs-stream-items.result.now c.loop-stream.stream-index
-    (subst (λ (reads : List ℕ). AllByRecursion (λ s. s < length (streams_of plan.parts)) reads) (sym c.inputs-stream-items.ensures)
+    (subst (λ (reads : List ℕ). AllByRecursion (λ s. s < length (streams_of plan.parts)) reads)
+    (sym c.inputs-stream-items.ensures)
     g.sound.reads)
     c.loop-stream-test.true
 
@@ -27,5 +28,6 @@ returns c =
     let g = is-giver plan c.args.unit x _ c.plant.ensures.plan c.requires c.index-units-unit.is
     (c.units.ensures ∙ ap units_of c.plant.ensures.plant) in
     c.loop-stream.invariant
-    ∙ ap (map (window_of plan).opening) (take_all c.loop-stream.stream-index c.inputs-stream-items.result.now (omega arith)
+    ∙ ap (map (window_of plan).opening)
+    (take_all c.loop-stream.stream-index c.inputs-stream-items.result.now (omega arith)
     ∙ c.inputs-stream-items.ensures ∙ sym (reads-are plan c.args.unit x g))

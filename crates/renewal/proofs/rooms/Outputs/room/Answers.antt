@@ -16,7 +16,8 @@ opening_tube-requires c =
     let g = is-giver plan c.args.unit x _ c.plant.ensures.plan c.requires c.index-units-unit.is
     (c.units.ensures ∙ ap units_of c.plant.ensures.plant) in
     let i = c.loop-stream.stream-index in
-    let there : i < length (gives_of x) = omega (arith, c.loop-stream-test.true, ap length c.outputs-stream-items.ensures) in
+    let there : i < length (gives_of x) =
+    omega (arith, c.loop-stream-test.true, ap length c.outputs-stream-items.ensures) in
     subst (λ (gives : List ℕ). get_or gives i 0 < length (streams_of plan.parts)) (sym c.outputs-stream-items.ensures)
     (g.sound.gives i there).0
 
@@ -38,7 +39,8 @@ returns c =
       ports_shape =
           ap (map (map length)) (c.loop-stream.invariant
           ∙ ap (map (window_of plan).opening)
-          (take_all c.loop-stream.stream-index c.outputs-stream-items.result.now (omega arith) ∙ c.outputs-stream-items.ensures))
+          (take_all c.loop-stream.stream-index c.outputs-stream-items.result.now (omega arith)
+          ∙ c.outputs-stream-items.ensures))
           ∙ outputs-shape plan c.args.unit x g;
       states_shape =
           ap (map length) (c.in_ok-states.ensures
