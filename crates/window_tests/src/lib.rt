@@ -1,6 +1,8 @@
-//! Renewals of single units over a window, against numbers that were worked out by hand. It has tests alone.
+//! Renewals of single units over a window, and boards, against numbers that were worked out by hand. It has tests alone.
 #![tactic(auto)]
 
+#[cfg(test)]
+mod boards;
 #[cfg(test)]
 mod renewals;
 #[cfg(test)]

@@ -14,7 +14,7 @@ use text_plants::plant_in;
 use tubes::Tube;
 
 /// It holds 1000 mL and lets out 10,000 ppm of them a tick.
-const WORKED_TANK: Unit = ("t", TANK, &[]);
+pub(crate) const WORKED_TANK: Unit = ("t", TANK, &[]);
 
 const WORKED_MIXER: Unit = ("m", MIXER, &[]);
 
@@ -64,10 +64,10 @@ fn ends_at(tube: &Tube, tick: u32, channel: usize) -> Option<(i64, i64)> {
 }
 
 /// The ends that each channel has at a tick.
-type Want = (u32, &'static [(i64, i64)]);
+pub(crate) type Want = (u32, &'static [(i64, i64)]);
 
 /// Compares rows of a tube.
-fn has_rows<R: Abort>(rt: &R, tube: &Tube, wants: &[Want]) {
+pub(crate) fn has_rows<R: Abort>(rt: &R, tube: &Tube, wants: &[Want]) {
     for (tick, row) in wants {
         for (channel, ends) in row.iter().enumerate() {
             assert_eq!(rt;
@@ -80,14 +80,14 @@ fn has_rows<R: Abort>(rt: &R, tube: &Tube, wants: &[Want]) {
 }
 
 /// The flow, the conc and the temp of the tank's outflow.
-const OUTFLOW: [Want; 3] = [
+pub(crate) const OUTFLOW: [Want; 3] = [
     (0, &[(10, 10), (0, 0), (300_000, 300_000)]),
     (1, &[(10, 10), (1, 1), (300_000, 300_000)]),
     (2, &[(10, 10), (1, 2), (300_000, 300_000)]),
 ];
 
 /// Its level.
-const LEVEL: [Want; 3] = [
+pub(crate) const LEVEL: [Want; 3] = [
     (0, &[(1_000, 1_000)]),
     (1, &[(1_000, 1_002)]),
     (2, &[(1_000, 1_004)]),
