@@ -1,17 +1,15 @@
 -- A board's versions are those of a window that keeps the run, and a step that narrows leaves a board.
-use Rattle.std.proofs.Common.{◌≡◌, ◌∙◌, ℕ, zero, ◌<◌, ◌≤◌, List, [], ◌∷◌, ◌++◌, length, map, refl, sym, ap, subst, arith, false}
+use Rattle.std.proofs.Common.{◌≡◌, ◌∙◌, ℕ, ◌<◌, List, [], ◌∷◌, ◌++◌, length, refl, sym, ap, subst, arith, false}
 use Rattle.std.proofs.lemmas.List.{map-append}
 use Rattle.std.proofs.lemmas.List.FromFn.{get_or-map-range_with_len}
-use Rattle.flowsheet.specs.Plant as sheet
-use Rattle.relaxation.specs.Tube.{Tube, IsWithin}
+use Rattle.relaxation.specs.Tube.{IsWithin}
 use Rattle.relaxation.specs.Window.{Window, IsOpen, run_tube}
-use Rattle.relaxation.specs.Core.{Versions, Step, opening_versions, versions_of, version_at, last_of, IsLegal, is_idle, after_step, replay, reached, AreLegal, AreNarrowing}
-use Rattle.relaxation.proofs.Chains.{AreVersions, tube_at, versions-fall}
+use Rattle.relaxation.specs.Core.{Versions, Step, opening_versions, versions_of, version_at, IsLegal, is_idle, after_step, replay, reached, AreLegal, AreNarrowing}
+use Rattle.relaxation.proofs.Chains.{tube_at, versions-fall}
 use Rattle.relaxation.proofs.Sequences.{replay-append, legal-append, narrowing-append}
 use Rattle.relaxation.proofs.States.{KeepsRun, reached-kept}
 use Rattle.relaxation.proofs.Stays.{replay-stays}
 use Rattle.plant_streams.specs.Streams.{streams_of}
-use Rattle.plant.specs.PlantOf.{plant_of}
 use Rattle.plant.proofs.Lookups.{streams-counted}
 use Rattle.renewal.specs.Plan.{PlanOf, IsPlan, window_of}
 use Rattle.renewal.proofs.Windows.{is-open}
@@ -50,7 +48,7 @@ module _ (board : BoardOf) (is : IsBoard board) where
   some-version s l = (board-kept.each s (stream-below s l)).some
 
   -- version 0 is the opening tube
-  first-version : (s : ℕ) → s < length (streams_of board.plan.parts) → version_at board.versions s 0 ≡ window.opening s
+  pub first-version : (s : ℕ) → s < length (streams_of board.plan.parts) → version_at board.versions s 0 ≡ window.opening s
   first-version s l =
       let at : versions_of (opening_versions window) s ≡ window.opening s ∷ []
       = get_or-map-range_with_len (λ q. window.opening q ∷ []) 0 (length window.plant.streams) s s [] (stream-below s l) (omega arith) in

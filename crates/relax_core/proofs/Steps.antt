@@ -1,12 +1,12 @@
 -- A step on a board: it is legal, and what is appended makes the board after it.
-use Rattle.std.proofs.Common.{◌≡◌, ◌∙◌, ℕ, ◌+◌, ◌<◌, ◌≤◌, ◌^◌, List, [], ◌∷◌, ◌++◌, length, sym, ap, subst, arith, inl, inr, true, false, Ok, Err, length-set, get_or-set_same, get_or-set_other}
+use Rattle.std.proofs.Common.{◌≡◌, ◌∙◌, ℕ, ◌<◌, ◌^◌, List, [], ◌∷◌, ◌++◌, length, sym, ap, subst, arith, inl, inr, false, Ok, Err, get_or-set_same, get_or-set_other}
 use Rattle.std.specs.Prelude.{Result, slice_set, slice_index_or}
 use Rattle.std.proofs.lemmas.Bool.{cases_eq}
 use Rattle.std.proofs.lemmas.List.{length_push}
-use Rattle.flowsheet.specs.Plant.{Origin, port, origin_of}
+use Rattle.flowsheet.specs.Plant.{port, origin_of}
 use Rattle.relaxation.specs.Tube.{Tube, IsWithin, HasNumbers, is_within, meet}
 use Rattle.relaxation.specs.Window.{Window, renewal, run_tube}
-use Rattle.relaxation.specs.Core.{Versions, Step, versions_of, last_of, named, AreThere, origin_renewal, step_renewal, IsLegalFrom, IsLegal, is_idle, after_step}
+use Rattle.relaxation.specs.Core.{Versions, Step, versions_of, last_of, named, AreThere, origin_renewal, step_renewal, IsLegalFrom, IsLegal, is_idle}
 use Rattle.relaxation.proofs.Sequences.{after-narrows}
 use Rattle.relaxation.proofs.States.{step-numbers, renewal-holds, last-holds}
 use Rattle.tubes.specs.Shape.{HasShapeOf}
@@ -21,7 +21,7 @@ use Rattle.relax_core.specs.declared.board.Stepped.{Stepped}
 use Rattle.relax_core.specs.declared.board.Stepped.TheVariants as stepped
 use Rattle.relax_core.specs.declared.board.StepFault.{StepFault}
 use Rattle.relax_core.specs.declared.board.StepFault.TheVariants as fault
-use Rattle.relax_core.proofs.Boards.{board-open, board-kept, stream-below, streams-there, after-is, board_of}
+use Rattle.relax_core.proofs.Boards.{board-open, board-kept, stream-below, after-is, board_of}
 use Rattle.relax_core.proofs.Readings.{within-shape}
 
 -- a board with these versions and rows

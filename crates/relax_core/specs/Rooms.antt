@@ -1,6 +1,6 @@
 -- Room for the renewals of each unit of a plan. A reader of the board's contracts needs none of these words.
 use Rattle.std.specs.Prelude.{◌≡◌, ◌<◌, ◌^◌, ℕ, List, [], length, slice_index_or}
-use Rattle.relaxation.specs.Core.{Versions, versions_of}
+use Rattle.relaxation.specs.Core.{versions_of}
 use Rattle.plant_units.specs.Units.{units_of}
 use Rattle.renewal.specs.Plan.{PlanOf}
 use Rattle.renewal.specs.Room.{planned, AreOpened, HasRoomFor}

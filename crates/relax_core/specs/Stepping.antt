@@ -1,8 +1,7 @@
 -- What a step on a board answers, and what it leaves.
-use Rattle.std.specs.Prelude.{◌≡◌, ◌<◌, ◌≤◌, ℕ, true, false, List, [], length, slice_index, slice_index_or, Result, Ok, Err}
+use Rattle.std.specs.Prelude.{◌≡◌, ◌<◌, ◌≤◌, ℕ, true, false, List, [], length, slice_index, Result, Ok, Err}
 use Rattle.flowsheet.specs.Plant.{Origin, feed, port, unit_at, origin_of}
-use Rattle.relaxation.specs.Core.{Versions, Step, versions_of, is_idle, IsLegal}
-use Rattle.relaxation.specs.Window.{Window}
+use Rattle.relaxation.specs.Core.{Step, versions_of, is_idle, IsLegal}
 use Rattle.plant.specs.PlantOf.{plant_of}
 use Rattle.renewal.specs.Plan.{PlanOf, window_of}
 use Rattle.relax_core.specs.Board.{BoardOf, after}

@@ -1,9 +1,9 @@
-ghost use Rattle.std.specs.Prelude.{◌≡◌, ◌<◌, length, slice_index_or, IfOk};
+ghost use Rattle.std.specs.Prelude.{◌≡◌, ◌<◌, length, IfOk};
 ghost use Rattle.plant_streams.specs.Streams.{streams_of};
 ghost use Rattle.plant.specs.PlantOf.{plant_of};
 ghost use Rattle.flowsheet.specs.Plant.{origin_of};
 ghost use Rattle.relaxation.specs.Core.{versions_of, last_of};
-ghost use Rattle.relax_core.specs.Board.{opening_board};
+ghost use Rattle.relax_core.specs.Board.{IsBoard, opening_board};
 ghost use Rattle.relax_core.specs.Rooms.{HasRooms};
 ghost use Rattle.renewal.specs.Plan.{IsPlan};
 ghost use Rattle.relax_core.specs.Stepping.{reads_for, IsOutputOf, Steps};
@@ -129,7 +129,8 @@ impl<'p> Board<'p> {
 
     /// The steps that narrowed so far.
     pub fn rows(&self) -> &[StepRow]
-        ensures { result.now ≡ self.now.rows }
+        ensures rows { result.now ≡ self.now.rows }
+        ensures board { IsBoard self.now }
     {
         self.rows.as_slice()
     }

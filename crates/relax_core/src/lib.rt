@@ -3,6 +3,7 @@
 
 mod board;
 mod givers;
+mod laws;
 mod lines;
 mod making;
 mod refs;
@@ -10,4 +11,5 @@ mod room;
 mod settle;
 
 pub use board::{Board, StepFault, StepRow, Stepped};
+pub use laws::{boards_have_versions, steps_keep_boards};
 pub use refs::Refs;

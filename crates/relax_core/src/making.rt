@@ -25,9 +25,8 @@ pub(crate) fn first_missing(lines: &Lines, reads: &[u32], versions: &[u32]) -> O
         let wanted = versions[input];
         let have = lines.count(*stream) as u32;
         if have <= wanted {
-            let input = input as u32;
             return Some(StepFault::NoSuchVersion {
-                input,
+                input: input as u32,
                 wanted,
                 have,
             });

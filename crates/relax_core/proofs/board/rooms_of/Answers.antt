@@ -1,8 +1,6 @@
-use Rattle.std.proofs.Common.{◌≡◌, ◌∙◌, ℕ, ◌+◌, [], ◌∷◌, ◌++◌, List, length, sym, ap, subst, arith}
+use Rattle.std.proofs.Common.{◌≡◌, ℕ, ◌+◌, length, sym, ap, subst, arith}
 use Rattle.parts.specs.Parts.{FileParts}
 use Rattle.plant_units.specs.Units.{units_of}
-use Rattle.relax_core.specs.declared.room.Room.{Room}
-use Rattle.relax_core.specs.Rooms.{HasRooms}
 use Rattle.relax_core.proofs.Counts.{units-few}
 use Rattle.relax_core.proofs.Rooms.{HasRoomsBelow, rooms-more}
 use Rattle.relax_core.proofs.board.rooms_of.Goals as goal

@@ -1,5 +1,5 @@
 -- The stream that stands at the place comes from an output that its unit has.
-use Rattle.std.proofs.Common.{◌<◌, ◌∙◌, ℕ, length, ap, sym, subst}
+use Rattle.std.proofs.Common.{◌<◌, ◌∙◌, ℕ, ap, sym, subst}
 use Rattle.flowsheet.specs.Plant as sheet
 use Rattle.plant_streams.specs.declared.streams.StreamSource.TheVariants as source
 use Rattle.plant_streams.specs.Streams.{streams_of}

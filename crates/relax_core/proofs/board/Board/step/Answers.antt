@@ -1,10 +1,8 @@
 -- What stands before the append is the renewal of a legal step, and what it leaves is the board after the step.
-use Rattle.std.proofs.Common.{◌≡◌, ◌<◌, ℕ, List, length, sym, ap, subst, arith}
+use Rattle.std.proofs.Common.{◌<◌, ℕ, List, length, sym, subst, arith}
 use Rattle.std.specs.List.{AllByRecursion}
-use Rattle.flowsheet.specs.Plant.{origin_of}
 use Rattle.relaxation.specs.Core.{AreThere, named}
 use Rattle.plant_streams.specs.Streams.{streams_of}
-use Rattle.plant.specs.PlantOf.{plant_of}
 use Rattle.renewal.specs.Room.{planned}
 use Rattle.relax_core.specs.Board.{BoardOf}
 use Rattle.relax_core.specs.Stepping.{Steps}

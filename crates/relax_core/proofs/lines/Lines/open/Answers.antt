@@ -1,5 +1,5 @@
 -- There are few streams, and each has its opening tube.
-use Rattle.std.proofs.Common.{◌≡◌, ◌∙◌, ℕ, [], ◌∷◌, ◌++◌, List, length, map, sym, ap, arith}
+use Rattle.std.proofs.Common.{◌≡◌, ◌∙◌, ℕ, ◌+◌, [], ◌∷◌, ◌++◌, List, length, map, sym, ap, arith}
 use Rattle.std.specs.List.{range_with_len}
 use Rattle.std.proofs.lemmas.List.FromFn.{map-range_with_len_more}
 use Rattle.parts.specs.Parts.{FileParts}
@@ -27,14 +27,17 @@ open-requires c = omega (
   ap (λ (parts : FileParts). length (streams_of parts)) c.plant.ensures.plant,
 )
 
-pub loop-stream-preserved : goal.loop-stream-preserved
-loop-stream-preserved c =
-    let opening = λ (s : ℕ). (window_of c.args.plan.now).opening s ∷ [] in
-    let n = c.loop-stream.stream in
-    c.in_ok-push.ensures.items
-    ∙ ap (λ (lines : List (List Tube)). lines ++ c.in_ok-open.field-0 ∷ []) c.loop-stream.invariant
-    ∙ ap (λ (line : List Tube). map opening (range_with_len 0 n) ++ line ∷ []) c.in_ok-open.ensures
+-- one stream more
+more : (opening : ℕ → List Tube) (n : ℕ) (lines old : List (List Tube)) (line : List Tube) → lines ≡ old ++ line ∷ [] →
+    old ≡ map opening (range_with_len 0 n) → line ≡ opening n → lines ≡ map opening (range_with_len 0 (n + 1))
+more opening n lines old line e k l =
+    e ∙ ap (λ (front : List (List Tube)). front ++ line ∷ []) k
+    ∙ ap (λ (last : List Tube). map opening (range_with_len 0 n) ++ last ∷ []) l
     ∙ sym (map-range_with_len_more opening 0 n n (omega arith))
+
+pub loop-stream-preserved : goal.loop-stream-preserved
+loop-stream-preserved c = more (λ s. (window_of c.args.plan.now).opening s ∷ []) c.loop-stream.stream _ c.loop-stream.lines.items
+    c.in_ok-open.field-0 c.in_ok-push.ensures.items c.loop-stream.invariant c.in_ok-open.ensures
 
 pub returns : goal.returns
 returns c =

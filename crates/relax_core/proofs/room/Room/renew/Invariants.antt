@@ -1,5 +1,4 @@
 -- The versions at the ports so far are read in.
-use Rattle.std.proofs.Common.{◌≡◌}
 use Rattle.renewal.specs.Room.{planned, HasRoomFor}
 use Rattle.relax_core.proofs.Readings.{IsReading}
 use Rattle.relax_core.proofs.room.Room.renew.Given as goal

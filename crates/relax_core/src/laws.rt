@@ -1,0 +1,26 @@
+ghost use Rattle.std.specs.Prelude.{◌≡◌, ◌<◌, ℕ, false, length};
+ghost use Rattle.relaxation.specs.Tube.{IsWithin};
+ghost use Rattle.relaxation.specs.Window.{Window};
+ghost use Rattle.relaxation.specs.Core.{Step, versions_of, version_at, IsLegal, is_idle};
+ghost use Rattle.plant_streams.specs.Streams.{streams_of};
+ghost use Rattle.renewal.specs.Plan.{PlanOf, window_of, IsPlan};
+ghost use Rattle.relax_core.specs.Board.{BoardOf, IsBoard, opening_board, after};
+
+/// A board has versions of each stream. The first is the stream's opening tube, and each lies in that.
+pub fn boards_have_versions()
+    ensures lines { (board : BoardOf) → IsBoard board → length board.versions ≡ length (streams_of board.plan.parts) }
+    ensures some { (board : BoardOf) (s : ℕ) → IsBoard board → s < length (streams_of board.plan.parts) →
+        0 < length (versions_of board.versions s) }
+    ensures first { (board : BoardOf) (s : ℕ) → IsBoard board → s < length (streams_of board.plan.parts) →
+        version_at board.versions s 0 ≡ (window_of board.plan).opening s }
+    ensures within { (board : BoardOf) (s k : ℕ) → IsBoard board → k < length (versions_of board.versions s) →
+        IsWithin (version_at board.versions s k) ((window_of board.plan).opening s) }
+{}
+
+/// There is a board before any step, and after each legal step that narrows its stream.
+pub fn steps_keep_boards()
+    ensures opening { (plan : PlanOf) → IsPlan plan → IsBoard (opening_board plan) }
+    ensures after { (board : BoardOf) (step : Step) → IsBoard board →
+        IsLegal (window_of board.plan) board.versions step →
+        is_idle (window_of board.plan) board.versions step ≡ false → IsBoard (after board step) }
+{}
