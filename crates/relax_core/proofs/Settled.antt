@@ -1,5 +1,6 @@
 -- A board after some sweeps: it goes on by their narrowing steps, and enough of them, or an idle one, leave it quiet.
-use Rattle.std.proofs.Common.{◌≡◌, ◌∙◌, ℕ, ◌+◌, ◌*◌, ◌<◌, ◌≤◌, List, [], ◌∷◌, ◌++◌, length, max, fold, refl, sym, ap, subst, arith, false}
+use Rattle.std.proofs.Common.{◌≡◌, ◌∙◌, ℕ, ◌+◌, ◌*◌, ◌<◌, ◌≤◌, List, [], ◌∷◌, ◌++◌, length, max, fold}
+use Rattle.std.proofs.Common.{refl, sym, ap, subst, arith, false}
 use Rattle.std.specs.Prelude.{Bool}
 use Rattle.std.proofs.lemmas.List.{length_push}
 use Rattle.std.proofs.Math.Nat.{mul-le-mul_left, mul-le-mul_right}
@@ -48,7 +49,8 @@ sweeps-leave window state [] steps = refl
 sweeps-leave window state (first ∷ sweeps) steps = sweeps-leave window (replay window state first) sweeps steps
 
 -- a sweep in which each stream has had its turn
-sweep-whole : (board new : BoardOf) (narrows : Bool) (h : IsSweeping board (length (streams_of board.plan.parts)) narrows new) →
+sweep-whole : (board new : BoardOf) (narrows : Bool)
+    (h : IsSweeping board (length (streams_of board.plan.parts)) narrows new) →
     IsSweep (window_of board.plan) board.versions h.steps
 sweep-whole board new narrows h = record {
   legal = h.legal;
@@ -69,11 +71,12 @@ module _ (start : BoardOf) (k : ℕ) (board : BoardOf) (h : IsSettling start k b
   plan-same = ap (λ (b : BoardOf). b.plan) h.goes.leads
 
   -- a sweep more
-  pub settling-more : (new : BoardOf) (narrows : Bool) → IsSweeping board (length (streams_of board.plan.parts)) narrows new →
-      IsSettling start (k + 1) new
+  pub settling-more : (new : BoardOf) (narrows : Bool) →
+      IsSweeping board (length (streams_of board.plan.parts)) narrows new → IsSettling start (k + 1) new
   settling-more new narrows s =
       let window : Window = window_of start.plan in
-      let whole : IsSweep window board.versions s.steps = subst (λ (p : PlanOf). IsSweep (window_of p) board.versions s.steps) plan-same
+      let whole : IsSweep window board.versions s.steps
+      = subst (λ (p : PlanOf). IsSweep (window_of p) board.versions s.steps) plan-same
       (sweep-whole board new narrows s) in
       record {
         sweeps = h.sweeps ++ s.steps ∷ [];
@@ -95,9 +98,10 @@ module _ (start : BoardOf) (k : ℕ) (board : BoardOf) (h : IsSettling start k b
     -- each stream has at most a version more for each sweep
     pub settling-few : (s : ℕ) → length (versions_of board.versions s) ≤ length (versions_of start.versions s) + k
     settling-few s =
-        let e : length (versions_of board.versions s) ≡ length (versions_of (replay_sweeps (window_of start.plan) start.versions h.sweeps) s)
-        = ap (λ state. length (versions_of state s)) h.left in
-        omega (arith, e, h.counted, sweeps-count (window_of start.plan) (board-open start is) start.versions h.sweeps (board-kept start is) h.are s)
+        let window : Window = window_of start.plan in
+        let e = ap (λ (state : Versions). length (versions_of state s)) h.left in
+        let few = sweeps-count window (board-open start is) start.versions h.sweeps (board-kept start is) h.are s in
+        omega (arith, e, h.counted, few)
 
     -- and in a sweep that did not come to its end one more
     pub sweeping-few : (n : ℕ) (narrows : Bool) (new : BoardOf) → IsSweeping board n narrows new → (s : ℕ) →
@@ -105,13 +109,15 @@ module _ (start : BoardOf) (k : ℕ) (board : BoardOf) (h : IsSettling start k b
     sweeping-few n narrows new w s =
         let window : Window = window_of start.plan in
         let e : new.versions ≡ replay window board.versions w.steps
-        = sweep-leaves board n narrows new w ∙ ap (λ (p : PlanOf). replay (window_of p) board.versions w.steps) plan-same in
+        = sweep-leaves board n narrows new w
+        ∙ ap (λ (p : PlanOf). replay (window_of p) board.versions w.steps) plan-same in
         let count = steps-count window (board-open start is) board.versions w.steps settling-kept
         (subst (λ (p : PlanOf). AreLegal (window_of p) board.versions w.steps) plan-same w.legal) s in
         omega (arith, ap (λ state. length (versions_of state s)) e, count, w.once s, settling-few s)
 
     -- as many sweeps as there are places leave it quiet
-    pub settling-quiet : start.plan.ticks * ((plant_of start.plan.parts).top + 1) ≤ k → IsQuiet (window_of board.plan) board.versions
+    pub settling-quiet : start.plan.ticks * ((plant_of start.plan.parts).top + 1) ≤ k →
+        IsQuiet (window_of board.plan) board.versions
     settling-quiet all =
         let window : Window = window_of start.plan in
         let left : Versions = replay_sweeps window start.versions h.sweeps in

@@ -1,56 +1,70 @@
 -- A board goes on by steps, and by the turn of one stream more in a sweep.
-use Rattle.std.proofs.Common.{◌≡◌, ◌∙◌, ℕ, zero, suc, ◌+◌, ◌≤◌, List, [], ◌∷◌, ◌++◌, length, map, refl, sym, ap, subst, arith, inl, inr, true, false, Contains, cond, eq-eqb, append_assoc, ◌≢◌}
+use Rattle.std.proofs.Common.{◌≡◌, ◌≢◌, ◌∙◌, ℕ, zero, suc, ◌+◌, ◌≤◌, List, [], ◌∷◌, ◌++◌, length, map, Contains}
+use Rattle.std.proofs.Common.{refl, sym, ap, subst, arith, inl, inr, true, false, cond, eq-eqb, append_assoc}
 use Rattle.std.specs.Prelude.{Bool, Ok, count_by, ◌==◌}
 use Rattle.std.proofs.lemmas.Bool.{cases_Bool, cases_eq}
 use Rattle.std.proofs.lemmas.Bool.Decides.{nat_tests}
 use Rattle.std.proofs.lemmas.List.{map-append, append-nil}
 use Rattle.std.proofs.lemmas.List.Sums.{sum_by-append, sum_by-cons}
 use Rattle.std.proofs.lemmas.List.Elements.{Contains-append_left, Contains-append_cases, Contains-push}
-use Rattle.flowsheet.specs.Plant.{feed, port, unit_at, origin_of}
+use Rattle.flowsheet.specs.Plant.{Origin, feed, port, unit_at, origin_of}
 use Rattle.flowsheet.proofs.Ranks.{source, from_feed, from_port}
 use Rattle.relaxation.specs.Window.{Window}
-use Rattle.relaxation.specs.Core.{Versions, Step, versions_of, IsLegal, is_idle, after_step, replay, narrowing, last_numbers, last_step, IsSettled}
+use Rattle.relaxation.specs.Core.{Versions, Step, versions_of, IsLegal, is_idle, after_step, replay, narrowing}
+use Rattle.relaxation.specs.Core.{last_numbers, last_step, IsSettled}
 use Rattle.relaxation.specs.Sweep.{AreNewest, ReadsNewest}
-use Rattle.relaxation.proofs.Sequences.{after-idle, replay-append, legal-append, narrowing-append, narrowing-idle, narrowing-more, narrowing-replay, narrowing-legal, narrowing-narrowing}
+use Rattle.relaxation.proofs.Sequences.{after-idle, replay-append, legal-append, narrowing-append, narrowing-idle}
+use Rattle.relaxation.proofs.Sequences.{narrowing-more, narrowing-replay, narrowing-legal, narrowing-narrowing}
 use Rattle.relaxation.proofs.Stays.{replay-stays}
 use Rattle.plant.specs.PlantOf.{plant_of}
 use Rattle.renewal.specs.Plan.{window_of}
 use Rattle.relax_core.specs.Board.{RowOf, BoardOf, rows_from}
 use Rattle.relax_core.specs.Settling.{after_steps, GoesOn}
 use Rattle.relax_core.specs.Turns.{Turns, TurnsFrom, IsSweeping}
+use Rattle.relax_core.proofs.Boards.{board_of}
 
--- the rows of steps after others
-rows-append : (window : Window) (state : Versions) (steps more : List Step) →
-    rows_from window state (steps ++ more) ≡ rows_from window state steps ++ rows_from window (replay window state steps) more
-rows-append window state [] more = refl
-rows-append window state (step ∷ steps) more =
-    ap (λ (rows : List RowOf). record { stream = step.stream; version = length (versions_of state step.stream); refs = step.inputs } ∷ rows)
-    (rows-append window (after_step window state step) steps more)
+module _ (window : Window) where
+  -- the rows of steps after others
+  rows-append : (state : Versions) (steps more : List Step) → rows_from window state (steps ++ more)
+      ≡ rows_from window state steps ++ rows_from window (replay window state steps) more
+  rows-append state [] more = refl
+  rows-append state (step ∷ steps) more =
+      let version = length (versions_of state step.stream) in
+      ap (λ (rows : List RowOf). record { stream = step.stream; version = version; refs = step.inputs } ∷ rows)
+      (rows-append (after_step window state step) steps more)
 
--- the narrowing steps of two lists
-narrowing-both : (window : Window) (state : Versions) (steps more : List Step) →
-    narrowing window state (steps ++ more) ≡ narrowing window state steps ++ narrowing window (replay window state steps) more
-narrowing-both window state [] more = refl
-narrowing-both window state (step ∷ steps) more = elim (cases_Bool (is_idle window state step)) [
-  | inl e ↦ narrowing-idle window state step (steps ++ more) e
-      ∙ narrowing-both window state steps more
-      ∙ ap (λ list. list ++ narrowing window (replay window state steps) more) (sym (narrowing-idle window state step steps e))
-      ∙ ap (λ x. narrowing window state (step ∷ steps) ++ narrowing window (replay window x steps) more) (sym (after-idle window state step e))
-  | inr e ↦ narrowing-more window state step (steps ++ more) e
-      ∙ ap (λ list. step ∷ list) (narrowing-both window (after_step window state step) steps more)
-      ∙ ap (λ list. list ++ narrowing window (replay window (after_step window state step) steps) more) (sym (narrowing-more window state step steps e))
-]
+  -- the narrowing steps of two lists
+  narrowing-both : (state : Versions) (steps more : List Step) → narrowing window state (steps ++ more)
+      ≡ narrowing window state steps ++ narrowing window (replay window state steps) more
+  narrowing-both state [] more = refl
+  narrowing-both state (step ∷ steps) more =
+      let next = after_step window state step in
+      elim (cases_Bool (is_idle window state step)) [
+        | inl e ↦ narrowing-idle window state step (steps ++ more) e
+            ∙ narrowing-both state steps more
+            ∙ ap (λ list. list ++ narrowing window (replay window state steps) more)
+            (sym (narrowing-idle window state step steps e))
+            ∙ ap (λ x. narrowing window state (step ∷ steps) ++ narrowing window (replay window x steps) more)
+            (sym (after-idle window state step e))
+        | inr e ↦ narrowing-more window state step (steps ++ more) e
+            ∙ ap (λ list. step ∷ list) (narrowing-both next steps more)
+            ∙ ap (λ list. list ++ narrowing window (replay window next steps) more)
+            (sym (narrowing-more window state step steps e))
+      ]
 
 -- the board after steps and more of them
 pub after-append : (board : BoardOf) (steps more : List Step) →
     after_steps board (steps ++ more) ≡ after_steps (after_steps board steps) more
 after-append board steps more =
     let window = window_of board.plan in
-    let made = λ (state : Versions) (rows : List RowOf). let b : BoardOf = record { plan = board.plan; versions = state; rows = rows } in b in
-    ap (λ state. made state (board.rows ++ rows_from window board.versions (steps ++ more))) (replay-append window board.versions steps more)
-    ∙ ap (λ rows. made (replay window (replay window board.versions steps) more) rows)
-    (ap (λ rows. board.rows ++ rows) (rows-append window board.versions steps more)
-    ∙ sym (append_assoc board.rows (rows_from window board.versions steps) (rows_from window (replay window board.versions steps) more)))
+    let left = replay window board.versions steps in
+    let rows = rows_from window board.versions steps in
+    let further = rows_from window left more in
+    ap (λ state. board_of board.plan state (board.rows ++ rows_from window board.versions (steps ++ more)))
+    (replay-append window board.versions steps more)
+    ∙ ap (λ list. board_of board.plan (replay window left more) (board.rows ++ list))
+    (rows-append window board.versions steps more)
+    ∙ ap (board_of board.plan (replay window left more)) (sym (append_assoc board.rows rows further))
 
 -- a board goes on by none
 pub goes_nowhere : (board : BoardOf) → GoesOn board board
@@ -58,8 +72,7 @@ goes_nowhere board = record {
   steps = [];
   legal = tt;
   narrowing = tt;
-  leads = ap (λ (rows : List RowOf). let b : BoardOf = record { plan = board.plan; versions = board.versions; rows = rows } in b)
-      (sym (append-nil board.rows));
+  leads = ap (board_of board.plan board.versions) (sym (append-nil board.rows));
 }
 
 -- and by one list after another
@@ -98,7 +111,8 @@ sweep-none start = record {
 }
 
 -- a sweep goes on from where it began
-pub sweep-goes : (start : BoardOf) (n : ℕ) (narrows : Bool) (board : BoardOf) → IsSweeping start n narrows board → GoesOn start board
+pub sweep-goes : (start : BoardOf) (n : ℕ) (narrows : Bool) (board : BoardOf) → IsSweeping start n narrows board →
+    GoesOn start board
 sweep-goes start n narrows board h = record {
   steps = narrowing (window_of start.plan) start.versions h.steps;
   legal = narrowing-legal (window_of start.plan) start.versions h.steps h.legal;
@@ -126,10 +140,6 @@ sweep-flag start n narrows said board h k = record {
   none = λ e. h.none (k e);
 }
 
-pub sweep-some : (start : BoardOf) (n : ℕ) (narrows : Bool) (board : BoardOf) → IsSweeping start n narrows board →
-    IsSweeping start n true board
-sweep-some start n narrows board h = sweep-flag start n narrows true board h (λ e. cc)
-
 -- the turn of a feed changes nothing
 sweep-fed : (start board : BoardOf) (n f : ℕ) (narrows : Bool) → IsSweeping start n narrows board →
     origin_of (plant_of start.plan.parts) n ≡ feed f → IsSweeping start (n + 1) narrows board
@@ -140,8 +150,10 @@ sweep-fed start board n f narrows h o = record {
   once = h.once;
   below = λ s l. h.below s (omega arith);
   covers = λ s l. elim (cases_eq s n) [
-    | inl e ↦ inr (subst (λ i. IsSettled (window_of start.plan) start.versions i (origin_of (plant_of start.plan.parts) i)) (sym e)
-        (subst (IsSettled (window_of start.plan) start.versions n) (sym o) tt))
+    | inl e ↦
+        (let window = window_of start.plan in
+        inr (subst (λ i. IsSettled window start.versions i (origin_of window.plant i)) (sym e)
+        (subst (IsSettled window start.versions n) (sym o) tt)))
     | inr ne ↦ h.covers s (omega arith)
   ];
   leads = h.leads;
@@ -169,42 +181,59 @@ module _ (start board : BoardOf) (n u p : ℕ) (o : origin_of (plant_of start.pl
   abbrev window : Window
   window = window_of start.plan
 
-  abbrev last : Step
-  last = last_step window (replay window start.versions h.steps) u n
+  -- what the steps so far leave, those of them that narrowed, and the next
+  abbrev left : Versions
+  left = replay window start.versions h.steps
 
-  sweep-counts : (s : ℕ) → count_by (λ (step : Step). step.stream == s) (h.steps ++ last ∷ [])
-      ≡ count_by (λ (step : Step). step.stream == s) h.steps + marks n s
-  sweep-counts s =
-      let counts = λ (step : Step). marks step.stream s in
-      omega (arith, sum_by-append counts h.steps (last ∷ []), sum_by-cons counts last [])
+  abbrev made : List Step
+  made = narrowing window start.versions h.steps
 
-  last-newest : ReadsNewest window start.versions last.inputs (origin_of (plant_of start.plan.parts) n)
-  last-newest = subst (ReadsNewest window start.versions last.inputs) (sym o)
+  abbrev from : Versions → Step
+  from state = last_step window state u n
+
+  abbrev all : List Step
+  all = h.steps ++ from left ∷ []
+
+  abbrev streams : List Step → List ℕ
+  streams steps = map (λ (step : Step). step.stream) steps
+
+  abbrev count : List Step → ℕ → ℕ
+  count steps s = count_by (λ (step : Step). step.stream == s) steps
+
+  counts-more : (s : ℕ) → count all s ≡ count h.steps s + marks n s
+  counts-more s =
+      let marked = λ (step : Step). marks step.stream s in
+      omega (arith, sum_by-append marked h.steps (from left ∷ []), sum_by-cons marked (from left) [])
+
+  streams-more : streams all ≡ streams h.steps ++ n ∷ []
+  streams-more = map-append (λ (step : Step). step.stream) h.steps (from left ∷ [])
+
+  last-newest : ReadsNewest window start.versions (from left).inputs (origin_of (plant_of start.plan.parts) n)
+  last-newest = subst (ReadsNewest window start.versions (from left).inputs) (sym o)
       (newest-last window start.versions h.steps (unit_at window.plant u).reads)
 
-  sweep-step : (new : BoardOf) (narrows : Bool) → IsLegal window (replay window start.versions h.steps) last →
-      new ≡ after_steps start (narrowing window start.versions (h.steps ++ last ∷ [])) →
-      (narrows ≡ false → narrowing window start.versions (h.steps ++ last ∷ []) ≡ []) → IsSweeping start (n + 1) narrows new
+  sweep-step : (new : BoardOf) (narrows : Bool) → IsLegal window left (from left) →
+      new ≡ after_steps start (narrowing window start.versions all) →
+      (narrows ≡ false → narrowing window start.versions all ≡ []) → IsSweeping start (n + 1) narrows new
   sweep-step new narrows legal leads none = record {
-    steps = h.steps ++ last ∷ [];
-    legal = legal-append window start.versions h.steps (last ∷ []) h.legal (legal, tt);
-    newest = λ step c. elim (Contains-append_cases h.steps (last ∷ []) step c) [
+    steps = all;
+    legal = legal-append window start.versions h.steps (from left ∷ []) h.legal (legal, tt);
+    newest = λ step c. elim (Contains-append_cases h.steps (from left ∷ []) step c) [
       | inl d ↦ h.newest step d
-      | inr d ↦ subst (λ x. ReadsNewest window start.versions x.inputs (origin_of (plant_of start.plan.parts) x.stream))
-          (only_there last step d) last-newest
+      | inr d ↦ subst (λ x. ReadsNewest window start.versions x.inputs (origin_of window.plant x.stream))
+          (only_there (from left) step d) last-newest
     ];
     once = λ s. elim (cases_eq s n) [
-      | inl e ↦ omega (arith, sweep-counts s, h.below s (omega arith), ap (marks n) e, marks-itself n)
-      | inr ne ↦ omega (arith, sweep-counts s, h.once s, marks-other n s ne)
+      | inl e ↦ omega (arith, counts-more s, h.below s (omega arith), ap (marks n) e, marks-itself n)
+      | inr ne ↦ omega (arith, counts-more s, h.once s, marks-other n s ne)
     ];
-    below = λ s l. omega (arith, sweep-counts s, h.below s (omega arith), marks-other n s (λ e. omega arith));
+    below = λ s l. omega (arith, counts-more s, h.below s (omega arith), marks-other n s (λ e. omega arith));
     covers = λ s l. elim (cases_eq s n) [
-      | inl e ↦ inl (subst (Contains (map (λ (step : Step). step.stream) (h.steps ++ last ∷ []))) (sym e)
-          (subst (λ list. Contains list n) (sym (map-append (λ (step : Step). step.stream) h.steps (last ∷ [])))
-          (Contains-push (map (λ (step : Step). step.stream) h.steps) n)))
+      | inl e ↦ inl (subst (λ list. Contains list s) (sym streams-more)
+          (subst (Contains (streams h.steps ++ n ∷ [])) (sym e) (Contains-push (streams h.steps) n)))
       | inr ne ↦ elim (h.covers s (omega arith)) [
-        | inl c ↦ inl (subst (λ list. Contains list s) (sym (map-append (λ (step : Step). step.stream) h.steps (last ∷ [])))
-            (Contains-append_left (map (λ (step : Step). step.stream) h.steps) (n ∷ []) s c))
+        | inl c ↦ inl (subst (λ list. Contains list s) (sym streams-more)
+            (Contains-append_left (streams h.steps) (n ∷ []) s c))
         | inr settled ↦ inr settled
       ]
     ];
@@ -213,48 +242,49 @@ module _ (start board : BoardOf) (n u p : ℕ) (o : origin_of (plant_of start.pl
   }
 
   -- which is among the narrowing ones where it narrows
-  narrowing-idles : is_idle window (replay window start.versions h.steps) last ≡ true →
-      narrowing window start.versions (h.steps ++ last ∷ []) ≡ narrowing window start.versions h.steps
-  narrowing-idles e = narrowing-both window start.versions h.steps (last ∷ [])
-      ∙ ap (λ more. narrowing window start.versions h.steps ++ more) (narrowing-idle window (replay window start.versions h.steps) last [] e)
-      ∙ append-nil (narrowing window start.versions h.steps)
+  narrowing-idles : is_idle window left (from left) ≡ true → narrowing window start.versions all ≡ made
+  narrowing-idles e = narrowing-both window start.versions h.steps (from left ∷ [])
+      ∙ ap (λ more. made ++ more) (narrowing-idle window left (from left) [] e)
+      ∙ append-nil made
 
-  narrowing-narrows : is_idle window (replay window start.versions h.steps) last ≡ false →
-      narrowing window start.versions (h.steps ++ last ∷ []) ≡ narrowing window start.versions h.steps ++ last ∷ []
-  narrowing-narrows e = narrowing-both window start.versions h.steps (last ∷ [])
-      ∙ ap (λ more. narrowing window start.versions h.steps ++ more) (narrowing-more window (replay window start.versions h.steps) last [] e)
+  narrowing-narrows : is_idle window left (from left) ≡ false → narrowing window start.versions all ≡ made ++ from left ∷ []
+  narrowing-narrows e = narrowing-both window start.versions h.steps (from left ∷ [])
+      ∙ ap (λ more. made ++ more) (narrowing-more window left (from left) [] e)
+
+  -- the board has what all steps so far leave
+  same : replay window start.versions made ≡ left
+  same = narrowing-replay window start.versions h.steps
 
   turn-given : (E : Type 0) (narrows : Bool) (new : BoardOf) →
-      TurnsFrom {E = E} (Ok narrows) (after_steps start (narrowing window start.versions h.steps)) n (port u p) new →
+      TurnsFrom {E = E} (Ok narrows) (after_steps start made) n (port u p) new →
       (said : Bool) → (said ≡ false → (before ≡ false) × (narrows ≡ false)) → IsSweeping start (n + 1) said new
   turn-given E true new t said k =
-      let same = narrowing-replay window start.versions h.steps in
-      let from = λ (state : Versions). last_step window state u n in
+      let narrows = subst (λ state. is_idle window state (from state) ≡ false) same t.1 in
       sweep-step new said (subst (λ state. IsLegal window state (from state)) same t.0)
-      (t.2 ∙ sym (after-append start (narrowing window start.versions h.steps) (from (replay window start.versions (narrowing window start.versions h.steps)) ∷ []))
-      ∙ ap (λ state. after_steps start (narrowing window start.versions h.steps ++ from state ∷ [])) same
-      ∙ ap (after_steps start) (sym (narrowing-narrows (subst (λ state. is_idle window state (from state) ≡ false) same t.1))))
+      (t.2 ∙ sym (after-append start made (from (replay window start.versions made) ∷ []))
+      ∙ ap (λ state. after_steps start (made ++ from state ∷ [])) same
+      ∙ ap (after_steps start) (sym (narrowing-narrows narrows)))
       (λ e. absurd (let f = (k e).1 in let g : ⊥ = cc in g))
   turn-given E false new t said k =
-      let same = narrowing-replay window start.versions h.steps in
-      let from = λ (state : Versions). last_step window state u n in
       let idle = narrowing-idles (subst (λ state. is_idle window state (from state) ≡ true) same t.1) in
       sweep-step new said (subst (λ state. IsLegal window state (from state)) same t.0)
       (t.2 ∙ ap (after_steps start) (sym idle))
       (λ e. idle ∙ h.none (k e).0)
 
 -- and the turn of any goes on with the sweep
-pub sweep-turn : (E : Type 0) (start board new : BoardOf) (n : ℕ) (before narrows said : Bool) → IsSweeping start n before board →
-    Turns {E = E} (Ok narrows) board n new → (said ≡ false → (before ≡ false) × (narrows ≡ false)) → IsSweeping start (n + 1) said new
+pub sweep-turn : (E : Type 0) (start board new : BoardOf) (n : ℕ) (before narrows said : Bool) →
+    IsSweeping start n before board → Turns {E = E} (Ok narrows) board n new →
+    (said ≡ false → (before ≡ false) × (narrows ≡ false)) → IsSweeping start (n + 1) said new
 sweep-turn E start board new n before narrows said h turn k =
-    let window = window_of start.plan in
-    let here = after_steps start (narrowing window start.versions h.steps) in
-    let turned : Turns {E = E} (Ok narrows) here n new = subst (λ b. Turns {E = E} (Ok narrows) b n new) h.leads turn in
+    let here = after_steps start (narrowing (window_of start.plan) start.versions h.steps) in
+    let turned = λ (from : Origin). TurnsFrom {E = E} (Ok narrows) here n from new in
+    let told : turned (origin_of (plant_of start.plan.parts) n)
+    = subst (λ b. Turns {E = E} (Ok narrows) b n new) h.leads turn in
     elim (source (origin_of (plant_of start.plan.parts) n)) [
       | from_feed f o ↦
-          (let fed : TurnsFrom {E = E} (Ok narrows) here n (feed f) new = subst (λ from. TurnsFrom {E = E} (Ok narrows) here n from new) o turned in
+          (let fed : turned (feed f) = subst turned o told in
           sweep-flag start (n + 1) before said new
-          (subst (IsSweeping start (n + 1) before) (h.leads ∙ sym fed.1) (sweep-fed start board n f before h o)) (λ e. (k e).0))
-      | from_port u p o ↦ turn-given start board n u p o before h E narrows new
-          (subst (λ from. TurnsFrom {E = E} (Ok narrows) here n from new) o turned) said k
+          (subst (IsSweeping start (n + 1) before) (h.leads ∙ sym fed.1) (sweep-fed start board n f before h o))
+          (λ e. (k e).0))
+      | from_port u p o ↦ turn-given start board n u p o before h E narrows new (subst turned o told) said k
     ]

@@ -1,5 +1,6 @@
 -- The unit that gives a stream, and the last versions of what it reads, which are there.
-use Rattle.std.proofs.Common.{◌≡◌, ◌∙◌, ℕ, ◌+◌, ◌-◌, ◌<◌, List, [], ◌∷◌, ◌++◌, length, map, take, get_or, sym, ap, subst, arith}
+use Rattle.std.proofs.Common.{◌≡◌, ◌∙◌, ℕ, ◌+◌, ◌-◌, ◌<◌, List, [], ◌∷◌, ◌++◌, length, map, take}
+use Rattle.std.proofs.Common.{get_or, sym, ap, subst, arith}
 use Rattle.std.specs.Prelude.{slice_index, slice_set}
 use Rattle.std.specs.List.{AllByRecursion}
 use Rattle.std.proofs.lemmas.List.{length-map, take_more_set, map_more}
@@ -41,9 +42,10 @@ giver (port v p) u h = (p, ap (λ w. port w p) h)
 pub giver-there : (plan : PlanOf) (s u : ℕ) → IsPlan plan → s < length (streams_of plan.parts) →
     IsGivenBy (origin_of (plant_of plan.parts) s) u → u < length (units_of plan.parts)
 giver-there plan s u h l g =
-    let found = giver (origin_of (plant_of plan.parts) s) u g in
-    subst (λ n. u < n) (units-counted plan.parts)
-    (unit_there (plant_of plan.parts) s u found.0 (is-open plan h).ranked (subst (λ n. s < n) (sym (streams-counted plan.parts)) l) found.1)
+    let plant = plant_of plan.parts in
+    let found = giver (origin_of plant s) u g in
+    let below = subst (λ n. s < n) (sym (streams-counted plan.parts)) l in
+    subst (λ n. u < n) (units-counted plan.parts) (unit_there plant s u found.0 (is-open plan h).ranked below found.1)
 
 -- what it reads is what is read for the stream
 pub giver-reads : (plan : PlanOf) (s u : ℕ) → IsGivenBy (origin_of (plant_of plan.parts) s) u →
@@ -56,7 +58,8 @@ pub reads-there : (plan : PlanOf) (u : ℕ) → IsPlan plan → u < length (unit
     AllByRecursion (λ s. s < length (streams_of plan.parts)) (planned plan u).reads
 reads-there plan u h l =
     let found = some-giver plan u h l in
-    subst (λ (reads : List ℕ). AllByRecursion (λ s. s < length (streams_of plan.parts)) reads) (sym (reads-are plan u found.0 found.1))
+    subst (λ (reads : List ℕ). AllByRecursion (λ s. s < length (streams_of plan.parts)) reads)
+    (sym (reads-are plan u found.0 found.1))
     (found.1).sound.reads
 
 -- the number of the last version of one stream more
@@ -71,7 +74,8 @@ numbers-more state reads numbers i n l m e is =
 
 -- the last versions are not missing
 pub last-missing : (board : BoardOf) → IsBoard board → (u : ℕ) → u < length (units_of board.plan.parts) →
-    (numbers reads : List ℕ) → reads ≡ (planned board.plan u).reads → numbers ≡ last_numbers board.versions (planned board.plan u).reads →
+    (numbers reads : List ℕ) → reads ≡ (planned board.plan u).reads →
+    numbers ≡ last_numbers board.versions (planned board.plan u).reads →
     (k wanted have : ℕ) → IsFirstMissing board reads numbers k wanted have → ⊥
 last-missing board is u l numbers reads r e k wanted have missing =
     let own : List ℕ = (planned board.plan u).reads in

@@ -1,6 +1,7 @@
 -- Words of the proofs: a reader of the contracts needs none of them.
 -- The parts of which a step on a board is made.
-use Rattle.std.specs.Prelude.{◌≡◌, ◌+◌, ◌<◌, ◌^◌, ℕ, true, false, List, [], ◌∷◌, ◌++◌, length, slice_set, Result, Ok, Err, Option, Some, None}
+use Rattle.std.specs.Prelude.{◌≡◌, ◌+◌, ◌<◌, ◌^◌, ℕ, true, false, List, [], ◌∷◌, ◌++◌, length, slice_set}
+use Rattle.std.specs.Prelude.{Result, Ok, Err, Option, Some, None}
 use Rattle.relaxation.specs.Tube.{Tube, IsWithin, is_within, meet}
 use Rattle.relaxation.specs.Core.{Versions, versions_of, version_at, last_of, AreThere}
 use Rattle.renewal.specs.Plan.{PlanOf, window_of}
@@ -13,7 +14,8 @@ use Rattle.relax_core.specs.declared.board.StepFault.TheVariants as fault
 
 -- each version that is there lies in the tube that its stream opens with
 abbrev pub AreVersionsWithin : PlanOf → Versions → Type 0
-AreVersionsWithin plan state = (s k : ℕ) → k < length (versions_of state s) → IsWithin (version_at state s k) ((window_of plan).opening s)
+AreVersionsWithin plan state =
+    (s k : ℕ) → k < length (versions_of state s) → IsWithin (version_at state s k) ((window_of plan).opening s)
 
 -- all named versions are there, or this is the first that is not
 abbrev pub FindsMissing : Option StepFault → Versions → List ℕ → List ℕ → Type 0
@@ -23,7 +25,8 @@ FindsMissing (Some (fault.NoSuchVersion input wanted have)) state reads numbers 
 FindsMissing (Some fault.NoMemory) state reads numbers = ⊥
 
 -- the meet of a stream's last version with this tube is appended, with a row, where it is narrower; or nothing is
-abbrev pub Appends : Result Stepped StepFault → ℕ → Tube → List ℕ → Versions → List RowOf → Versions → List RowOf → Type 0
+abbrev pub Appends : Result Stepped StepFault → ℕ → Tube → List ℕ →
+    Versions → List RowOf → Versions → List RowOf → Type 0
 Appends (Ok (stepped.Narrowed number)) s tube numbers state rows more longer =
     (is_within (last_of state s) tube ≡ false) × (number ≡ length (versions_of state s)) × (number + 1 < 2 ^ 32)
     × (more ≡ slice_set state s (versions_of state s ++ meet (last_of state s) tube ∷ []))

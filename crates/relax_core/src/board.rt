@@ -1,4 +1,4 @@
-ghost use Rattle.std.specs.Prelude.{◌≡◌, ◌<◌, length, slice_index_or, IfOk};
+ghost use Rattle.std.specs.Prelude.{◌≡◌, ◌<◌, length, IfOk};
 ghost use Rattle.plant_streams.specs.Streams.{streams_of};
 ghost use Rattle.plant.specs.PlantOf.{plant_of};
 ghost use Rattle.flowsheet.specs.Plant.{origin_of};

@@ -6,8 +6,7 @@ ghost use Rattle.plant_streams.specs.Streams.{streams_of};
 ghost use Rattle.renewal.specs.Plan.{PlanOf, window_of, IsPlan};
 ghost use Rattle.relax_core.specs.Board.{BoardOf, IsBoard, opening_board, after};
 
-/// A board has a line of versions for each stream, which begins with the stream's opening tube, and each version lies in
-/// that.
+/// A board has versions of each stream. The first is the stream's opening tube, and each lies in that.
 pub fn boards_have_versions()
     ensures lines { (board : BoardOf) → IsBoard board → length board.versions ≡ length (streams_of board.plan.parts) }
     ensures some { (board : BoardOf) (s : ℕ) → IsBoard board → s < length (streams_of board.plan.parts) →

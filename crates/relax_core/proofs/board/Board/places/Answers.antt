@@ -9,22 +9,26 @@ overflow_add-result c =
     let plan = c.args.self.now.plan in
     omega (
       arith,
-      greatest-is plan _ _ _ _ c.plan-plan.ensures.plan c.plant.ensures.plant c.ranks.ensures.ranks c.greatest_rank.ensures,
+      greatest-is plan _ _ _ _ c.plan-plan.ensures.plan c.plant.ensures.plant c.ranks.ensures.ranks
+          c.greatest_rank.ensures,
       top-few plan c.plan-plan.ensures.board.plan,
     )
 
 pub overflow_mul-result : goal.overflow_mul-result
 overflow_mul-result c =
     let plan = c.args.self.now.plan in
-    let top = greatest-is plan _ _ _ _ c.plan-plan.ensures.plan c.plant.ensures.plant c.ranks.ensures.ranks c.greatest_rank.ensures in
+    let top = greatest-is plan _ _ _ _ c.plan-plan.ensures.plan c.plant.ensures.plant c.ranks.ensures.ranks
+    c.greatest_rank.ensures in
     let ticks = c.ticks.ensures ∙ ap (λ (p : PlanOf). p.ticks) c.plan-plan.ensures.plan in
-    let few = places-few c.ticks.result c.greatest_rank.result (omega (arith, ticks, c.plan-plan.ensures.board.plan.few))
+    let few = places-few c.ticks.result c.greatest_rank.result
+    (omega (arith, ticks, c.plan-plan.ensures.board.plan.few))
     (omega (arith, top, top-few plan c.plan-plan.ensures.board.plan)) in
     omega (arith, few)
 
 pub returns-clause-places : goal.returns-clause-places
 returns-clause-places c =
     let plan = c.args.self.now.plan in
-    let top = greatest-is plan _ _ _ _ c.plan-plan.ensures.plan c.plant.ensures.plant c.ranks.ensures.ranks c.greatest_rank.ensures in
+    let top = greatest-is plan _ _ _ _ c.plan-plan.ensures.plan c.plant.ensures.plant c.ranks.ensures.ranks
+    c.greatest_rank.ensures in
     let ticks = c.ticks.ensures ∙ ap (λ (p : PlanOf). p.ticks) c.plan-plan.ensures.plan in
     ap (λ (n : ℕ). n * (c.greatest_rank.result + 1)) ticks ∙ ap (λ (n : ℕ). plan.ticks * (n + 1)) top

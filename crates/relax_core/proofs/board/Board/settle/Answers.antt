@@ -1,9 +1,10 @@
--- Each sweep goes on with the settling, and one that narrowed nothing, or the last of as many as there are places, ends it.
+-- Each sweep goes on with the settling. One that narrowed nothing ends it, or the last of as many as there are places.
 use Rattle.std.proofs.Common.{length, subst, arith}
 use Rattle.std.specs.Prelude.{Bool}
 use Rattle.plant_streams.specs.Streams.{streams_of}
 use Rattle.relax_core.specs.Turns.{IsSweeping}
-use Rattle.relax_core.proofs.Settled.{settling_none, settling-more, settling-few, settling-quiet, sweeping-few, sweep-quiet}
+use Rattle.relax_core.proofs.Settled.{settling_none, settling-more, settling-few, settling-quiet}
+use Rattle.relax_core.proofs.Settled.{sweeping-few, sweep-quiet}
 use Rattle.relax_core.proofs.Sweeping.{goes_further, sweep-goes}
 use Rattle.relax_core.proofs.board.Board.settle.Goals as goal
 
@@ -32,8 +33,10 @@ returns-in_err-sweep-clause-few c = λ s l.
     )
 
 pub returns-then-not-branch-clause-quiet : goal.returns-then-not-branch-clause-quiet
-returns-then-not-branch-clause-quiet c = sweep-quiet c.loop.self c.sweep.new.self
-    (subst (λ (narrows : Bool). IsSweeping c.loop.self (length (streams_of c.loop.self.plan.parts)) narrows c.sweep.new.self)
+returns-then-not-branch-clause-quiet c =
+    let board = c.loop.self in
+    sweep-quiet board c.sweep.new.self
+    (subst (λ (narrows : Bool). IsSweeping board (length (streams_of board.plan.parts)) narrows c.sweep.new.self)
     c.if-not-branch.true c.in_ok-sweep.ensures)
 
 pub returns-then-not-branch-clause-longer : goal.returns-then-not-branch-clause-longer

@@ -29,8 +29,8 @@ loop-stream-preserved c =
     let n = c.loop-stream.stream in
     elim c.if-branch.branch [
       | then-branch w ↦ subst (λ (said : Bool). IsSweeping start (n + 1) said c.turn.new.self) (sym w.narrowed-is)
-          (sweep-turn AllocError start c.loop-stream.self c.turn.new.self n c.loop-stream.narrowed c.in_ok-turn.field-0 true
-          c.loop-stream.invariant c.in_ok-turn.ensures (λ e. cc))
+          (sweep-turn AllocError start c.loop-stream.self c.turn.new.self n c.loop-stream.narrowed c.in_ok-turn.field-0
+          true c.loop-stream.invariant c.in_ok-turn.ensures (λ e. cc))
       | else-branch w ↦ subst (λ (said : Bool). IsSweeping start (n + 1) said c.turn.new.self) (sym w.narrowed-is)
           (sweep-turn AllocError start c.loop-stream.self c.turn.new.self n c.loop-stream.narrowed c.in_ok-turn.field-0
           c.loop-stream.narrowed c.loop-stream.invariant c.in_ok-turn.ensures (λ e. (e, w.if-branch.false)))

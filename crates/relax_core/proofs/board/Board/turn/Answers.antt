@@ -23,7 +23,8 @@ returns-in-Feed c =
     let parts = c.args.self.now.plan.parts in
     let same = c.plant.ensures.plant ∙ ap (λ (plan : PlanOf). plan.parts) c.plan.ensures.plan in
     let from = origin-read parts _ c.args.stream _ _ c.requires (c.streams.ensures ∙ ap streams_of same) c.in-Feed.is in
-    subst (λ (origin : Origin). TurnsFrom {E = AllocError} (Ok false) c.args.self.now c.args.stream origin c.args.self.now) (sym from)
+    let board = c.args.self.now in
+    subst (λ (origin : Origin). TurnsFrom {E = AllocError} (Ok false) board c.args.stream origin board) (sym from)
     (refl, refl)
 
 pub returns-in-Narrowed : goal.returns-in-Narrowed
@@ -35,7 +36,8 @@ returns-in-Narrowed c =
     let step = last_step (window_of board.plan) board.versions c.in-Port.unit c.args.stream in
     let told = subst (λ (stepped : Stepped). Steps (Ok stepped) board step c.step_from_last.new.self) c.in-Narrowed.is
     c.in_ok-step_from_last-in-Port.ensures in
-    subst (λ (origin : Origin). TurnsFrom {E = AllocError} (Ok true) board c.args.stream origin c.step_from_last.new.self) (sym from)
+    subst (λ (origin : Origin). TurnsFrom {E = AllocError} (Ok true) board c.args.stream origin c.step_from_last.new.self)
+    (sym from)
     (told.0, told.1, told.3)
 
 pub returns-in-Same : goal.returns-in-Same
@@ -47,5 +49,6 @@ returns-in-Same c =
     let step = last_step (window_of board.plan) board.versions c.in-Port.unit c.args.stream in
     let told = subst (λ (stepped : Stepped). Steps (Ok stepped) board step c.step_from_last.new.self) c.in-Same.is
     c.in_ok-step_from_last-in-Port.ensures in
-    subst (λ (origin : Origin). TurnsFrom {E = AllocError} (Ok false) board c.args.stream origin c.step_from_last.new.self) (sym from)
+    subst (λ (origin : Origin). TurnsFrom {E = AllocError} (Ok false) board c.args.stream origin c.step_from_last.new.self)
+    (sym from)
     (told.0, told.1, told.2)
