@@ -1,4 +1,5 @@
-//! A board of one window: the versions of each stream, and steps that narrow one stream by one renewal.
+//! A board of one window: the versions of each stream, steps that narrow one stream by one renewal, and sweeps of them
+//! that settle the window.
 #![tactic(auto)]
 
 mod board;
