@@ -5,10 +5,10 @@ use std::alloc::Global;
 use std::test::Fail;
 
 /// The worked tank: it holds 1,000 mL, lets out a hundredth of them a tick, and takes in 10 to 12 mL at 100 mg/L.
-pub const T1: Unit = ("t1", TANK, &[]);
+pub const FIRST_TANK: Unit = ("t1", TANK, &[]);
 
 /// Another tank, which the first one feeds.
-pub const T2: Unit = ("t2", TANK, &[("\"f\"", "\"t1.out\"")]);
+pub const SECOND_TANK: Unit = ("t2", TANK, &[("\"f\"", "\"t1.out\"")]);
 
 /// What the source holds. The worked text is that of the two feeds and the worked tank.
 #[derive(Clone, Copy)]
@@ -49,7 +49,7 @@ const SMALL_TANK: (&str, &str) = (
 
 /// The worked text, and after it so many tables like this, each with a name of its own between its two halves.
 fn with_tables(alloc: Global, (before, after): (&str, &str), count: u32) -> Result<String, Fail> {
-    let mut text = plant_of(alloc, &[T1])?;
+    let mut text = plant_of(alloc, &[FIRST_TANK])?;
     for number in 0..count {
         let table = format!(in alloc; "{before}more_{number}{after}")?;
         text.push_str(&table)?;
@@ -64,7 +64,7 @@ fn with_pieces(alloc: Global, count: u32) -> Result<String, Fail> {
         array.push_str(&piece)?;
     }
     array.push_str("]")?;
-    plant_with(alloc, &[T1], &[("flow = [10, 12]", array.as_str())])
+    plant_with(alloc, &[FIRST_TANK], &[("flow = [10, 12]", array.as_str())])
 }
 
 fn with_rates(alloc: Global, count: u32) -> Result<String, Fail> {
@@ -76,7 +76,7 @@ fn with_rates(alloc: Global, count: u32) -> Result<String, Fail> {
     table.push_str("]\nheat = 0\nua = 0\nk = 10000")?;
     plant_with(
         alloc,
-        &[T1],
+        &[FIRST_TANK],
         &[("\"tank\"", "\"reactor\""), ("k = 10000", table.as_str())],
     )
 }
@@ -99,8 +99,8 @@ fn ring(alloc: Global, count: u32) -> Result<String, Fail> {
 pub fn bytes_of(alloc: Global, plant: Plant) -> Result<Vec<u8>, Fail> {
     let text = match plant {
         Plant::Bytes(bytes) => return Ok(Vec::from_slice(alloc, bytes)?),
-        Plant::Padded(length) => return padded(plant_of(alloc, &[T1])?, length),
-        Plant::With(changes) => plant_with(alloc, &[T1], changes),
+        Plant::Padded(length) => return padded(plant_of(alloc, &[FIRST_TANK])?, length),
+        Plant::With(changes) => plant_with(alloc, &[FIRST_TANK], changes),
         Plant::One(keys, changes) => plant_with(alloc, &[("t1", keys, &[])], changes),
         Plant::Of(units, changes) => plant_with(alloc, units, changes),
         Plant::Text(text, changes) => changed(alloc, text, changes),
@@ -112,7 +112,13 @@ pub fn bytes_of(alloc: Global, plant: Plant) -> Result<Vec<u8>, Fail> {
             with_splitters(alloc, plant_of(alloc, &[])?, 1..=count, "f", 1_000_000)
         }
         Plant::SplittersToo(count) => {
-            with_splitters(alloc, plant_of(alloc, &[T1])?, 1..=count, "f", 500_000)
+            with_splitters(
+                alloc,
+                plant_of(alloc, &[FIRST_TANK])?,
+                1..=count,
+                "f",
+                500_000,
+            )
         }
         Plant::Ring(count) => ring(alloc, count),
     }?;

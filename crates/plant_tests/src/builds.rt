@@ -28,7 +28,7 @@ const STEADY: [(&str, &str); 3] = [
     ("value = 1000000", "value = 500000"),
 ];
 
-const T1: Unit = ("t1", TANK, &[]);
+const FIRST_TANK: Unit = ("t1", TANK, &[]);
 
 /// What a unit behind it reads.
 const BEHIND: &[(&str, &str)] = &[("\"f\"", "\"t1.out\"")];
@@ -55,7 +55,7 @@ fn has_links<R: Abort>(rt: &R, plant: &Plant) {
 
 #[test]
 fn two_tanks_in_a_row(rt: HostRuntime) -> Result<(), Fail> {
-    let text = steady(rt.alloc(), &[T1, ("t2", TANK, BEHIND)])?;
+    let text = steady(rt.alloc(), &[FIRST_TANK, ("t2", TANK, BEHIND)])?;
     let plant = plant_in(rt.alloc(), &text)?;
     has_streams(&rt, &plant);
     has_links(&rt, &plant);
@@ -123,7 +123,7 @@ fn a_rate_table_that_stands_still(rt: HostRuntime) -> Result<(), Fail> {
 
 /// Units that are refused, with the refusal and its unit or place.
 static REFUSED: [(&[Unit], &str, &str); 4] = [
-    (&[T1, ("t1", TANK, BEHIND)], "twice", "t1"),
+    (&[FIRST_TANK, ("t1", TANK, BEHIND)], "twice", "t1"),
     // a mixer fed by its own splitter
     (
         &[

@@ -1,6 +1,6 @@
 //! Plants of the cases, and what the program writes of them.
 
-use crate::sources::{Plant, T1};
+use crate::sources::{FIRST_TANK, Plant};
 pub use crate::written::HEADER;
 use crate::written::Written;
 use plant_texts::{COLUMN, MIXER, RATES, REACTOR, SPLITTER, TANK, Unit};
@@ -136,7 +136,11 @@ pub const RECYCLE_RANKS: &str = "unit,kind,rank\ns,splitter,2\nm,mixer,1\nt1,tan
 
 /// A mixer and a splitter that feed one another, before the tank.
 pub const LOOP: Plant = Plant::Of(
-    &[JUNCTION, ("m", MIXER, &[("\"f\"]", "\"s.second\"]")]), T1],
+    &[
+        JUNCTION,
+        ("m", MIXER, &[("\"f\"]", "\"s.second\"]")]),
+        FIRST_TANK,
+    ],
     &[],
 );
 

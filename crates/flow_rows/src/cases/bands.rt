@@ -1,8 +1,8 @@
 //! Limits, opening bands and feeds.
 
 use super::{Case, try_cases};
+use crate::sources::FIRST_TANK;
 use crate::sources::Plant::{Of, With};
-use crate::sources::T1;
 use plant_texts::TANK;
 use std::test::Fail;
 
@@ -69,7 +69,7 @@ static CASES: [Case; 22] = [
         name: "a second tank that starts outside",
         plant: Of(
             &[
-                T1,
+                FIRST_TANK,
                 (
                     "t2",
                     TANK,

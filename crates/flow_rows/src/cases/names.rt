@@ -2,7 +2,7 @@
 
 use super::{Case, try_cases};
 use crate::sources::Plant::{Of, One, With};
-use crate::sources::{T1, T2};
+use crate::sources::{FIRST_TANK, SECOND_TANK};
 use plant_texts::{MIXER, RATES, REACTOR, SPLITTER};
 use std::test::Fail;
 
@@ -44,12 +44,12 @@ static CASES: [Case; 25] = [
     },
     Case {
         name: "a second tank after the first",
-        plant: Of(&[T1, T2], &[]),
+        plant: Of(&[FIRST_TANK, SECOND_TANK], &[]),
         refused: None,
     },
     Case {
         name: "two units of one name",
-        plant: Of(&[T1, T2], &[("\"t2\"", "\"t1\"")]),
+        plant: Of(&[FIRST_TANK, SECOND_TANK], &[("\"t2\"", "\"t1\"")]),
         refused: Some("P9 name twice t1"),
     },
     Case {
@@ -100,7 +100,7 @@ static CASES: [Case; 25] = [
     Case {
         name: "a name twice comes before a stream that is not there",
         plant: Of(
-            &[T1, T2],
+            &[FIRST_TANK, SECOND_TANK],
             &[("\"t2\"", "\"t1\""), ("in = \"f\"", "in = \"g\"")],
         ),
         refused: Some("P9 name twice t1"),
@@ -108,7 +108,7 @@ static CASES: [Case; 25] = [
     Case {
         name: "a stream that is not there comes before a wrong port further up",
         plant: Of(
-            &[T1, T2],
+            &[FIRST_TANK, SECOND_TANK],
             &[
                 ("in = \"f\"", "in = \"v\""),
                 ("in = \"t1.out\"", "in = \"t3.out\""),
@@ -138,7 +138,7 @@ static CASES: [Case; 25] = [
             &[
                 ("t1", MIXER, &[("\"f\"]", "\"s.second\"]")]),
                 ("s", SPLITTER, &[("\"f\"", "\"t2.out\"")]),
-                T2,
+                SECOND_TANK,
             ],
             &[],
         ),
