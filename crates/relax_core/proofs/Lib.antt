@@ -1,5 +1,7 @@
 pub mod Boards
 pub mod Counts
+pub mod Lasts
+pub mod Lefts
 pub mod Meets
 pub mod Readings
 pub mod Renewals

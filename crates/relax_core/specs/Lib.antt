@@ -1,6 +1,7 @@
 pub mod Board
 pub mod Making
 pub mod Rooms
+pub mod Settled
 pub mod Settling
 pub mod Stepping
 pub mod Turns

@@ -5,6 +5,7 @@ ghost use Rattle.flowsheet.specs.Plant.{origin_of};
 ghost use Rattle.relaxation.specs.Core.{versions_of, last_of};
 ghost use Rattle.relax_core.specs.Board.{IsBoard, opening_board};
 ghost use Rattle.relax_core.specs.Rooms.{HasRooms};
+ghost use Rattle.relax_core.specs.Settled.{window_on};
 ghost use Rattle.renewal.specs.Plan.{IsPlan};
 ghost use Rattle.relax_core.specs.Stepping.{reads_for, IsOutputOf, Steps};
 
@@ -13,6 +14,7 @@ use crate::lines::Lines;
 use crate::making::{append, first_missing};
 use crate::refs::Refs;
 use crate::room::Room;
+use crate::window::Window;
 use renewal::WindowPlan;
 use std::alloc::{AllocError, Global};
 use std::marker::Model;
@@ -136,6 +138,22 @@ impl<'p> Board<'p> {
         ensures board { IsBoard self.now }
     {
         self.rows.as_slice()
+    }
+
+    /// The last version of each stream, and the steps that narrowed.
+    pub fn into_window(self, alloc: Global) -> Result<Window, AllocError>
+        ensures window { IfOk result (λ window. window ≡ window_on self.entry) }
+        ensures board { IsBoard self.entry }
+    {
+        let first = self.plan.first();
+        let ticks = self.plan.ticks();
+        let tubes = self.lines.into_last(alloc)?;
+        Ok(Window {
+            first,
+            ticks,
+            tubes,
+            steps: self.rows,
+        })
     }
 
     /// Renews a stream from the versions with these numbers of what its unit reads, and appends the meet with its last

@@ -1,10 +1,12 @@
-ghost use Rattle.std.specs.Prelude.{◌≡◌, ◌↔◌, ◌<◌, ◌+◌, ℕ, true, false, length};
+ghost use Rattle.std.specs.Prelude.{◌≡◌, ◌↔◌, ◌<◌, ◌+◌, ℕ, true, false, length, map};
+ghost use Rattle.std.specs.List.{range_with_len};
 ghost use Rattle.relaxation.specs.Tube.{IsWithin, IsNarrower, HasNumbers, meet};
 ghost use Rattle.relaxation.specs.Window.{Window, run_tube};
 ghost use Rattle.relaxation.specs.Core.{Step, versions_of, version_at, last_of, step_renewal, IsLegal, is_idle, IsQuiet};
 ghost use Rattle.plant_streams.specs.Streams.{streams_of};
 ghost use Rattle.renewal.specs.Plan.{PlanOf, window_of, IsPlan};
 ghost use Rattle.relax_core.specs.Board.{BoardOf, IsBoard, opening_board, after};
+ghost use Rattle.relax_core.specs.Settled.{window_on, Settles, IsWindow};
 
 /// A board has versions of each stream. The first is the stream's opening tube, and each lies in that.
 pub fn boards_have_versions()
@@ -46,4 +48,14 @@ pub fn steps_keep_boards()
     ensures after { (board : BoardOf) (step : Step) → IsBoard board →
         IsLegal (window_of board.plan) board.versions step →
         is_idle (window_of board.plan) board.versions step ≡ false → IsBoard (after board step) }
+{}
+
+/// The rows of a quiet board settle its window, and its last versions are the run. A board leaves a window of its plant.
+pub fn quiet_boards_are_settled()
+    ensures rows { (board : BoardOf) → IsBoard board → IsQuiet (window_of board.plan) board.versions →
+        Settles (window_of board.plan) board.rows }
+    ensures tubes { (board : BoardOf) → IsBoard board → IsQuiet (window_of board.plan) board.versions →
+        (window_on board).tubes
+        ≡ map (run_tube (window_of board.plan)) (range_with_len 0 (length (streams_of board.plan.parts))) }
+    ensures window { (board : BoardOf) → IsBoard board → IsWindow board.plan.parts (window_on board) }
 {}

@@ -10,8 +10,12 @@ mod making;
 mod refs;
 mod room;
 mod settle;
+mod window;
 
 pub use board::{Board, StepFault, StepRow, Stepped};
 pub use givers::inputs_for;
-pub use laws::{boards_have_versions, boards_keep_the_run, steps_keep_boards};
+pub use laws::{
+    boards_have_versions, boards_keep_the_run, quiet_boards_are_settled, steps_keep_boards,
+};
 pub use refs::Refs;
+pub use window::Window;

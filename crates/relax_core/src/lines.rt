@@ -21,7 +21,7 @@ impl Model for Line {
 }
 
 impl Line {
-    ghost use Rattle.std.specs.Prelude.{◌≡◌, ◌<◌, [], ◌∷◌, ◌++◌, length, slice_index_or, IfOk, OnOk, OnErr};
+    ghost use Rattle.std.specs.Prelude.{◌≡◌, ◌<◌, [], ◌∷◌, ◌++◌, ◌-◌, length, slice_index_or, IfOk, OnOk, OnErr};
     ghost use Rattle.relaxation.specs.Window.{Window};
     ghost use Rattle.plant_streams.specs.Streams.{streams_of};
     ghost use Rattle.renewal.specs.Plan.{window_of};
@@ -59,6 +59,17 @@ impl Line {
         self.tubes.push(tube)?;
         Ok(())
     }
+
+    /// The last version.
+    fn into_last(mut self) -> Tube
+        requires { 0 < length self }
+        ensures { result ≡ slice_index_or self (length self - 1) [] }
+    {
+        match self.tubes.pop() {
+            Some(tube) => tube,
+            None => unreachable!(),
+        }
+    }
 }
 
 /// The versions of each stream.
@@ -77,7 +88,8 @@ impl Model for Lines {
 }
 
 impl Lines {
-    ghost use Rattle.std.specs.Prelude.{◌≡◌, ◌<◌, [], ◌∷◌, ◌++◌, length, slice_set, IfOk, OnOk, OnErr};
+    ghost use Rattle.std.specs.Prelude.{◌≡◌, ◌<◌, [], ◌∷◌, ◌++◌, ℕ, length, map, slice_set, IfOk, OnOk, OnErr};
+    ghost use Rattle.std.specs.List.{range_with_len};
     ghost use Rattle.relaxation.specs.Core.{versions_of, version_at, last_of};
     ghost use Rattle.relax_core.specs.Board.{opened};
 
@@ -127,5 +139,17 @@ impl Lines {
         ensures err { OnErr result (self.new ≡ self.old) }
     {
         self.lines[stream as usize].append(tube)
+    }
+
+    /// The last version of each stream.
+    pub(crate) fn into_last(self, alloc: Global) -> Result<Vec<Tube>, AllocError>
+        requires { (s : ℕ) → s < length self → 0 < length (versions_of self s) }
+        ensures { IfOk result (λ tubes. tubes.items ≡ map (last_of self) (range_with_len 0 (length self))) }
+    {
+        let mut tubes = Vec::with_capacity(alloc, self.lines.len())?;
+        for line in self.lines {
+            tubes.push_reserved(line.into_last());
+        }
+        Ok(tubes)
     }
 }

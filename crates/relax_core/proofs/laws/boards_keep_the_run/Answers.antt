@@ -1,4 +1,4 @@
-use Rattle.std.proofs.Common.{◌≡◌, true, false, inl, inr}
+use Rattle.std.proofs.Common.{inl, inr}
 use Rattle.std.proofs.lemmas.Bool.{cases_Bool}
 use Rattle.relaxation.specs.Core.{is_idle}
 use Rattle.relaxation.proofs.States.{version-holds, step-numbers, step-narrower, step-idle}
