@@ -21,7 +21,7 @@ use Rattle.plant_streams.specs.Limits.{limits_at}
 use Rattle.plant.specs.Sound.{IsPlant, IsSource}
 use Rattle.plant.proofs.Lookups.{from_feed, from_port, from, item, sound-at, unit-is, outputs-are, origin-is, streams-counted}
 use Rattle.plant.proofs.PlantLaws.{plant-sound, port-limits, parts-ranked, parts-limited, parts-bands, parts-fed}
-use Rattle.report.specs.Output.{channels}
+use Rattle.tables.specs.Output.{channels}
 
 run-limits : (parts : FileParts) → IsPlant parts → (tick s : ℕ) → s < length (streams_of parts) →
     length (streams_of_run parts tick s) ≡ length (limits_at parts s)

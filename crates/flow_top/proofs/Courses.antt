@@ -5,7 +5,7 @@ use Rattle.parts.specs.Parts.{FileParts}
 use Rattle.parts.specs.InRange.{AreInRange}
 use Rattle.plant.specs.Rows.{streams_of_run}
 use Rattle.plant.specs.Sound.{IsPlant}
-use Rattle.report.specs.Output.{header, rank_header, rows_of}
+use Rattle.tables.specs.Output.{header, rank_header, rows_of}
 use Rattle.flow_edge.specs.declared.status.Status.TheVariants as status
 use Rattle.flow_top.specs.declared.fault.Stop.{Stop}
 use Rattle.flow_top.specs.declared.fault.TopFault.{TopFault}

@@ -8,7 +8,7 @@ use Rattle.parts.specs.Parts.{FileParts}
 use Rattle.plant_streams.specs.declared.streams.Stream.{Stream}
 use Rattle.plant_streams.specs.Streams.{streams_of}
 use Rattle.plant.specs.Rows.{streams_of_run}
-use Rattle.report.specs.Output.{Label, rows_of, rows_from, stream_rows, tick_rows}
+use Rattle.tables.specs.Output.{Label, rows_of, rows_from, stream_rows, tick_rows}
 use Rattle.flow_top.specs.RunCourse.{labels_of}
 
 abbrev pub label_of : Stream → Label

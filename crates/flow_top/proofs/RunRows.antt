@@ -4,7 +4,7 @@ use Rattle.std.proofs.Common.{arith, append-nil, ◌⊎◌, inl, inr, Option, So
 use Rattle.quant.specs.Interval.{Interval}
 use Rattle.parts.specs.Parts.{FileParts}
 use Rattle.plant.specs.Rows.{streams_of_run}
-use Rattle.report.specs.Output.{Label, header, rows_of, tick_rows}
+use Rattle.tables.specs.Output.{Label, header, rows_of, tick_rows}
 use Rattle.flow_top.specs.Course.{Course, written, text_of}
 use Rattle.flow_top.specs.RunCourse.{labels_of, all_rows, ticks_in, window_rows, RunsWhole, RunsUnless, IsRunCourse, not_built}
 

@@ -4,7 +4,7 @@ use Rattle.parts.specs.Parts.{FileParts}
 use Rattle.plant_units.specs.declared.units.Unit.{Unit}
 use Rattle.plant_units.specs.Units.{units_of, name_of, kind_of}
 use Rattle.plant.specs.PlantOf.{ranks_of}
-use Rattle.report.specs.Output.{rank_header, rank_row}
+use Rattle.tables.specs.Output.{rank_header, rank_row}
 use Rattle.flow_top.specs.Course.{Course}
 
 -- the rows of the units from number u on, with the ranks of all

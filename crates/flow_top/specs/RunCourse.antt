@@ -5,7 +5,7 @@ use Rattle.parts.specs.Parts.{FileParts}
 use Rattle.parts.specs.declared.parts.Widths.{Widths}
 use Rattle.plant_streams.specs.Streams.{streams_of}
 use Rattle.plant.specs.Rows.{streams_of_run}
-use Rattle.report.specs.Output.{Label, header, rows_of}
+use Rattle.tables.specs.Output.{Label, header, rows_of}
 use Rattle.flow_top.specs.declared.words.Command.TheVariants.{Run}
 use Rattle.flow_top.specs.declared.fault.TopFault.TheVariants.{NotBuilt}
 use Rattle.flow_top.specs.Faults.{stop_by}

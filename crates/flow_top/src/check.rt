@@ -12,7 +12,7 @@ use crate::pieces::write_piece;
 use crate::words::Command;
 use flow_edge::Sink;
 use plant::Plant;
-use report::{Rows, rank_header};
+use tables::{Rows, rank_header};
 use std::alloc::{AllocError, Global};
 
 /// Writes the header and then one row for each unit.

@@ -8,7 +8,7 @@ ghost use Rattle.plant.specs.Sound.{IsPlant};
 ghost use Rattle.plant_streams.specs.Streams.{streams_of};
 ghost use Rattle.plant.specs.PlantOf.{plant_of, carried_of};
 ghost use Rattle.plant.specs.Rows.{streams_of_run};
-ghost use Rattle.report.specs.Output.{header, rank_header, rows_of, channels};
+ghost use Rattle.tables.specs.Output.{header, rank_header, rows_of, channels};
 ghost use Rattle.flow_top.specs.declared.words.Command.{Command};
 ghost use Rattle.flow_top.specs.declared.fault.Stop.{Stop};
 ghost use Rattle.flow_top.specs.Judged.{Judgement, IsJudged};

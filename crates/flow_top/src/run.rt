@@ -4,7 +4,7 @@ ghost use Rattle.std.specs.Prelude.{◌≡◌, ◌⊎◌, ◌≤◌, ◌++◌, l
 ghost use Rattle.std.specs.Option.{option_map};
 ghost use Rattle.plant_streams.specs.Streams.{streams_of};
 ghost use Rattle.plant.specs.Rows.{IsRow, stream_in};
-ghost use Rattle.report.specs.Output.{rows_from};
+ghost use Rattle.tables.specs.Output.{rows_from};
 ghost use Rattle.flow_top.specs.declared.words.Command.TheVariants.{Run};
 ghost use Rattle.flow_top.specs.declared.fault.End.TheVariants.{Stopped, NoMemory};
 ghost use Rattle.flow_top.specs.declared.fault.TopFault.TheVariants.{NotBuilt};
@@ -21,7 +21,7 @@ use flow_edge::Sink;
 use parts::{Parts, Widths};
 use plant::{Plant, Row, direct_steps_make_the_run};
 use plant_names::Place;
-use report::{Rows, output_header};
+use tables::{Rows, output_header};
 use std::alloc::{AllocError, Global};
 
 /// Writes the header and then the rows of the plant's one window.

@@ -1,3 +1,4 @@
-pub mod Line
+pub mod Lines
 pub mod Output
-pub mod Writer
+pub mod Ranks
+pub mod Trace

@@ -1,9 +1,11 @@
-//! The texts that the program writes: the rows of its tables.
+//! The texts that the program writes: the rows of its output, of its trace and of `check`, and the error lines.
 #![tactic(auto)]
 
-mod rows;
+mod fault;
+mod lines;
+mod texts;
 
-pub use rows::{OUTPUT_HEADER, RANK_HEADER, Rows, output_header, rank_header};
-
-#[cfg(test)]
-mod tests;
+pub use fault::TopFault;
+pub use lines::{constant_line, fault_line, memory_line};
+pub use tables::{output_header, rank_header, trace_header};
+pub use texts::{check_rows, trace_rows, tube_rows};

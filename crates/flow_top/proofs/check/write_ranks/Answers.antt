@@ -1,5 +1,5 @@
 use Rattle.std.proofs.Common.{refl, arith}
-use Rattle.report.specs.Output.{rank_header}
+use Rattle.tables.specs.Output.{rank_header}
 use Rattle.flow_top.specs.declared.words.Command.TheVariants.{Check}
 use Rattle.flow_top.specs.declared.fault.End.TheVariants.{NoMemory}
 use Rattle.flow_top.specs.CheckCourse.{rank_rows}

@@ -1,6 +1,6 @@
 use Rattle.std.proofs.Common.{◌≡◌}
 use Rattle.plant.specs.Rows.{IsRow, HasStatesOf, streams_of_run}
-use Rattle.report.specs.Output.{rows_of}
+use Rattle.tables.specs.Output.{rows_of}
 use Rattle.flow_top.specs.RunCourse.{labels_of}
 use Rattle.flow_top.proofs.run.plant_rows.Given as goal
 

@@ -1,6 +1,6 @@
 use Rattle.std.proofs.Common.{◌≡◌, ◌++◌, drop, map}
 use Rattle.plant.specs.Rows.{stream_in}
-use Rattle.report.specs.Output.{rows_from}
+use Rattle.tables.specs.Output.{rows_from}
 use Rattle.flow_top.proofs.PlantRows.{label_of}
 use Rattle.flow_top.proofs.run.put_tick.Given as goal
 

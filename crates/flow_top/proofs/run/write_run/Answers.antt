@@ -1,5 +1,5 @@
 use Rattle.std.proofs.Common.{◌≡◌, ◌∙◌, sym, ap, refl, arith, Some, None}
-use Rattle.report.specs.Output.{header}
+use Rattle.tables.specs.Output.{header}
 use Rattle.flow_top.specs.declared.words.Command.TheVariants.{Run}
 use Rattle.flow_top.specs.declared.fault.End.TheVariants.{NoMemory}
 use Rattle.flow_top.specs.RunCourse.{all_rows, not_built}

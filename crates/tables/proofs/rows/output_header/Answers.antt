@@ -1,6 +1,6 @@
 use Rattle.std.proofs.Common.{rules}
-use Rattle.report.specs.Output.{header}
-use Rattle.report.proofs.rows.output_header.Goals as goal
+use Rattle.tables.specs.Output.{header}
+use Rattle.tables.proofs.rows.output_header.Goals as goal
 
 pub returns : goal.returns
 unfolding header

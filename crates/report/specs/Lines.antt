@@ -1,11 +1,11 @@
 -- The error lines.
 use Rattle.std.specs.Prelude.{ℕ, ◌++◌, List, codes, decimal, Option, Some, None}
 use Rattle.std.specs.Fmt.{signed_decimal}
-use Rattle.flow_top.specs.declared.fault.TopFault.{TopFault}
-use Rattle.flow_top.specs.declared.fault.TopFault.TheVariants.{Words, TooLong, NotToml, Format, Missing, WrongType, UnknownKey}
-use Rattle.flow_top.specs.declared.fault.TopFault.TheVariants.{OutOfRange, BadName, Twice, NoSource, WrongPort, TooMany}
-use Rattle.flow_top.specs.declared.fault.TopFault.TheVariants.{BadLimits, StartOutside, FeedPieces, FeedOutside, TableFalls}
-use Rattle.flow_top.specs.declared.fault.TopFault.TheVariants.{ColumnTooFast, InstantLoop, TooDeep, NotBuilt, ReadPlant, WriteOut}
+use Rattle.report.specs.declared.fault.TopFault.{TopFault}
+use Rattle.report.specs.declared.fault.TopFault.TheVariants.{Words, TooLong, NotToml, Format, Missing, WrongType, UnknownKey}
+use Rattle.report.specs.declared.fault.TopFault.TheVariants.{OutOfRange, BadName, Twice, NoSource, WrongPort, TooMany}
+use Rattle.report.specs.declared.fault.TopFault.TheVariants.{BadLimits, StartOutside, FeedPieces, FeedOutside, TableFalls}
+use Rattle.report.specs.declared.fault.TopFault.TheVariants.{ColumnTooFast, InstantLoop, TooDeep, NotBuilt, ReadPlant, WriteOut, WriteTrace}
 
 -- what a line says
 unfoldable pub fault_words : TopFault → List ℕ
@@ -33,6 +33,7 @@ fault_words (TooDeep unit) = codes "P20 too deep " ++ unit
 fault_words (NotBuilt place) = codes "P0 not built yet " ++ place
 fault_words ReadPlant = codes "read fault on plant"
 fault_words WriteOut = codes "write fault on out"
+fault_words WriteTrace = codes "write fault on trace"
 
 -- a line begins with the program's name
 unfoldable pub line_of : List ℕ → List ℕ
@@ -71,3 +72,4 @@ constant_line (TooDeep unit) = None
 constant_line (NotBuilt place) = None
 constant_line ReadPlant = Some (fault_line ReadPlant)
 constant_line WriteOut = Some (fault_line WriteOut)
+constant_line WriteTrace = Some (fault_line WriteTrace)

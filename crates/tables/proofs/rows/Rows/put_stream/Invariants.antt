@@ -1,6 +1,6 @@
 use Rattle.std.proofs.Common.{◌≡◌, ◌++◌, drop, map}
-use Rattle.report.specs.Output.{channel_rows}
-use Rattle.report.proofs.rows.Rows.put_stream.Given as goal
+use Rattle.tables.specs.Output.{channel_rows}
+use Rattle.tables.proofs.rows.Rows.put_stream.Given as goal
 
 -- the rows so far and those of the channels that are left are the rows of all
 abbrev pub invariant-loop-i : goal.invariant-loop-i

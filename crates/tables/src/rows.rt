@@ -1,9 +1,11 @@
 ghost use Rattle.std.specs.Prelude.{◌≡◌, ◌≤◌, ◌∷◌, ◌++◌, [], length, map, IfOk, OnOk, OnErr};
-ghost use Rattle.report.specs.Output.{channels, header, rank_header};
+ghost use Rattle.tables.specs.Output.{channels, header, rank_header};
+ghost use Rattle.tables.specs.Steps.{trace_header};
 
 mod row_writer;
 
 use self::row_writer::{row_writer, write_row};
+use crate::spaced::Spaced;
 use itoa::Buffer;
 use quant::Band;
 use std::alloc::{AllocError, Global};
@@ -28,6 +30,17 @@ pub fn rank_header() -> &'static [u8]
     ensures { result.now ≡ rank_header }
 {
     RANK_HEADER.as_bytes()
+}
+
+/// The first line of the trace.
+pub const TRACE_HEADER: &str = "window,step,stream,version,inputs\n";
+
+/// The bytes of `TRACE_HEADER`.
+#[tactic(auto, unfolding(crate::specs::Steps::trace_header))]
+pub fn trace_header() -> &'static [u8]
+    ensures { result.now ≡ trace_header }
+{
+    TRACE_HEADER.as_bytes()
 }
 
 // The channels of a material stream and of a signal.
@@ -55,7 +68,7 @@ pub struct Rows {
 
 impl Model for Rows {
     ghost use Rattle.std.specs.Prelude.{ℕ, List};
-    ghost use Rattle.report.specs.Writer.{IsBetweenRows, text_so_far};
+    ghost use Rattle.tables.specs.Writer.{IsBetweenRows, text_so_far};
 
     ghost Value = { List ℕ };
 
@@ -65,8 +78,9 @@ impl Model for Rows {
 }
 
 impl Rows {
-    ghost use Rattle.report.specs.Line.{line};
-    ghost use Rattle.report.specs.Output.{stream_rows, rank_row};
+    ghost use Rattle.tables.specs.Line.{line};
+    ghost use Rattle.tables.specs.Output.{stream_rows, rank_row};
+    ghost use Rattle.tables.specs.Steps.{step_row};
     ghost use Rattle.std.specs.Fmt.{signed_decimal};
 
     /// No rows. It takes no memory.
@@ -163,6 +177,35 @@ impl Rows {
     {
         let mut rank_text = Buffer::new();
         self.put(&[name, kind, rank_text.format(rank).as_bytes()])
+    }
+
+    /// Adds the row of a step that narrowed a stream: the number of its window, its own number there, the stream's name, the
+    /// number of the version that it appended, and those of the at most 8 versions that it read, in the order of the ports.
+    ///
+    /// The one error is want of memory, after which no rows are left.
+    pub fn put_step(
+        &mut self,
+        window: u32,
+        step: u64,
+        name: &[u8],
+        version: u32,
+        inputs: &[u32],
+    ) -> Result<(), AllocError>
+        requires { length inputs.now ≤ 8 }
+        ensures ok { OnOk result (self.new ≡ self.old ++ step_row window step name.now version inputs.now) }
+        ensures err { OnErr result (self.new ≡ []) }
+    {
+        let mut window_text = Buffer::new();
+        let mut step_text = Buffer::new();
+        let mut version_text = Buffer::new();
+        let inputs = Spaced::new(inputs);
+        self.put_texts(
+            window_text.format(window).as_bytes(),
+            step_text.format(step).as_bytes(),
+            name,
+            version_text.format(version).as_bytes(),
+            inputs.as_bytes(),
+        )
     }
 
     /// The rows' text, or want of memory, with which the rows are lost.

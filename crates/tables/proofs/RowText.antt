@@ -1,8 +1,8 @@
 -- The text that csv writes for a row is a line of the table.
 use Rattle.std.proofs.Common.{◌≡◌, ℕ, ◌≤◌, List, [], ◌∷◌, ◌++◌, length, ap, append-nil, arith}
 use Rattle.csv.specs.Writing.{fields_text, is_blank, row_text}
-use Rattle.report.specs.Line.{comma, line_feed, joined, line}
-use Rattle.report.specs.Writer.{table_writer}
+use Rattle.tables.specs.Line.{comma, line_feed, joined, line}
+use Rattle.tables.specs.Writer.{table_writer}
 
 -- fields with a comma before each but the first
 fields_text-joined : (field : List ℕ) (rest : List (List ℕ)) → field ++ fields_text table_writer rest

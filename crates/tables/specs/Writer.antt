@@ -9,7 +9,7 @@ use Rattle.csv.specs.declared.parser.Terminator.TheVariants as term
 use Rattle.csv.specs.declared.writer.QuoteStyle.TheVariants as style
 use Rattle.csv.specs.declared.writer.WriterBuilder.{WriterBuilder}
 use Rattle.csv.specs.declared.writer.Writer.{Writer}
-use Rattle.report.specs.Line.{comma, line_feed}
+use Rattle.tables.specs.Line.{comma, line_feed}
 
 -- commas, line feeds, no quotes, and rows of any lengths
 abbrev pub table_writer : WriterBuilder

@@ -6,8 +6,8 @@ use Rattle.std.proofs.lemmas.List.{length-map, length-drop}
 use Rattle.std.specs.Prelude.{decimal}
 use Rattle.std.specs.Fmt.{signed_decimal}
 use Rattle.quant.specs.Interval.{Interval}
-use Rattle.report.specs.Line.{line}
-use Rattle.report.specs.Output.{row, channel_rows}
+use Rattle.tables.specs.Line.{line}
+use Rattle.tables.specs.Output.{row, channel_rows}
 
 -- the rows from a place on: the row of this place, and those behind it
 channel_rows-at : (tick : ℕ) (name : List ℕ) (channels : List (Bor (List ℕ))) (bands : List Interval) (i : ℕ)

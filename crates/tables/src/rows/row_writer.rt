@@ -1,8 +1,8 @@
 // The writer that rows go through.
 
 ghost use Rattle.std.specs.Prelude.{◌≡◌, ◌≤◌, ◌++◌, [], length, map, OnOk};
-ghost use Rattle.report.specs.Line.{line};
-ghost use Rattle.report.specs.Writer.{IsBetweenRows, text_so_far};
+ghost use Rattle.tables.specs.Line.{line};
+ghost use Rattle.tables.specs.Writer.{IsBetweenRows, text_so_far};
 
 use csv::{Error, QuoteStyle, Writer, WriterBuilder};
 use std::alloc::Global;

@@ -1,7 +1,7 @@
 use Rattle.std.proofs.Common.{◌<◌, ◌++◌, ◌∙◌, ap, length, arith}
-use Rattle.report.specs.Output.{channel_rows}
-use Rattle.report.proofs.ChannelRows.{channel_rows-step, channel_rows-end}
-use Rattle.report.proofs.rows.Rows.put_stream.Goals as goal
+use Rattle.tables.specs.Output.{channel_rows}
+use Rattle.tables.proofs.ChannelRows.{channel_rows-step, channel_rows-end}
+use Rattle.tables.proofs.rows.Rows.put_stream.Goals as goal
 
 -- one more row
 pub loop-i-preserved : goal.loop-i-preserved

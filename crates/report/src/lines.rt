@@ -2,8 +2,8 @@
 
 ghost use Rattle.std.specs.Prelude.{◌≡◌, ◌++◌, IfOk};
 ghost use Rattle.std.specs.Option.{option_map};
-ghost use Rattle.flow_top.specs.Lines.{fault_words, line_of, fault_line, constant_line, memory_line};
-ghost use Rattle.flow_top.specs.declared.fault.TopFault.TheVariants.{Words, Format};
+ghost use Rattle.report.specs.Lines.{fault_words, line_of, fault_line, constant_line, memory_line};
+ghost use Rattle.report.specs.declared.fault.TopFault.TheVariants.{Words, Format};
 
 use crate::fault::TopFault;
 use plant_names::{Place, Text};
@@ -25,13 +25,20 @@ pub fn constant_line(fault: &TopFault) -> Option<&'static [u8]>
     match fault {
         TopFault::ReadPlant => Some(b"flowrelax: read fault on plant\n"),
         TopFault::WriteOut => Some(b"flowrelax: write fault on out\n"),
+        TopFault::WriteTrace => Some(b"flowrelax: write fault on trace\n"),
         _ => None,
     }
 }
 
 /// The line of a fault.
+pub fn fault_line(alloc: Global, fault: &TopFault) -> Result<Text, AllocError>
+    ensures { IfOk result (λ line. line ≡ fault_line fault.now) }
+{
+    Ok(Text::new(line_bytes(alloc, fault)?))
+}
+
 #[tactic(auto, unfolding(crate::specs::Lines::fault_line, crate::specs::Lines::fault_words))]
-pub fn fault_line(alloc: Global, fault: &TopFault) -> Result<Vec<u8>, AllocError>
+fn line_bytes(alloc: Global, fault: &TopFault) -> Result<Vec<u8>, AllocError>
     ensures { IfOk result (λ line. line.items ≡ fault_line fault.now) }
 {
     match fault {
@@ -59,6 +66,7 @@ pub fn fault_line(alloc: Global, fault: &TopFault) -> Result<Vec<u8>, AllocError
         TopFault::NotBuilt { place } => place_line(alloc, b"P0 not built yet ", place),
         TopFault::ReadPlant => line_of(alloc, b"read fault on plant", b""),
         TopFault::WriteOut => line_of(alloc, b"write fault on out", b""),
+        TopFault::WriteTrace => line_of(alloc, b"write fault on trace", b""),
     }
 }
 

@@ -1,0 +1,16 @@
+-- The rows of `check`: the units of a plant with their kinds and ranks, in the order of the file.
+use Rattle.std.specs.Prelude.{ℕ, ◌+◌, ◌++◌, List, [], ◌∷◌, slice_index}
+use Rattle.parts.specs.Parts.{FileParts}
+use Rattle.plant_units.specs.declared.units.Unit.{Unit}
+use Rattle.plant_units.specs.Units.{units_of, name_of, kind_of}
+use Rattle.plant.specs.PlantOf.{ranks_of}
+use Rattle.tables.specs.Output.{rank_row}
+
+-- the rows of the units from number u on, with the ranks of all
+abbrev pub ranks_from : List ℕ → ℕ → List Unit → List ℕ
+ranks_from ranks u [] = []
+ranks_from ranks u (unit ∷ rest) =
+    rank_row (name_of unit) (kind_of unit) (slice_index ranks u) ++ ranks_from ranks (u + 1) rest
+
+abbrev pub rank_rows : FileParts → List ℕ
+rank_rows parts = ranks_from (ranks_of parts) 0 (units_of parts)

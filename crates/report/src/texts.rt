@@ -1,0 +1,79 @@
+//! The rows of a window's output and trace, and of a plant's ranks.
+
+ghost use Rattle.std.specs.Prelude.{◌≡◌, ◌+◌, ◌<◌, ◌++◌, [], slice_index_or, IfOk, OnOk};
+ghost use Rattle.relaxation.specs.Tube.{at};
+ghost use Rattle.tables.specs.Output.{rows_from};
+ghost use Rattle.relax_core.specs.Settled.{IsWindow};
+ghost use Rattle.report.specs.Output.{labels_of, output_rows};
+ghost use Rattle.report.specs.Ranks.{rank_rows};
+ghost use Rattle.report.specs.Trace.{names_of, trace_rows};
+
+use plant::Plant;
+use plant_names::Text;
+use relax_core::Window;
+use std::alloc::{AllocError, Global};
+use tables::Rows;
+
+/// The output's rows of a window of the plant.
+pub fn tube_rows(alloc: Global, plant: &Plant, window: &Window) -> Result<Text, AllocError>
+    requires { IsWindow plant.now window.now }
+    ensures { IfOk result (λ text. text ≡ output_rows plant.now window.now) }
+{
+    let mut rows = Rows::new(alloc);
+    for tick in 0..window.ticks {
+        put_tick(&mut rows, tick, plant, window)?;
+    }
+    Ok(Text::new(rows.into_text()?))
+}
+
+/// Adds the rows of a window's tick, counted from its first, stream by stream.
+fn put_tick(
+    rows: &mut Rows,
+    tick: u32,
+    plant: &Plant,
+    window: &Window,
+) -> Result<(), AllocError>
+    requires window { IsWindow plant.now window.now }
+    requires tick { tick < window.now.ticks }
+    ensures { OnOk result (rows.new ≡ rows.old
+        ++ rows_from (window.now.first + tick) (λ s. at (slice_index_or window.now.tubes s []) tick) 0 (labels_of plant.now)) }
+{
+    for (s, stream) in plant.streams().iter().enumerate() {
+        let bands = window.tubes[s].row(tick);
+        rows.put_stream(window.first + tick, stream.name.as_bytes(), stream.signal, bands)?;
+    }
+    Ok(())
+}
+
+/// The trace's rows of the window with this number.
+pub fn trace_rows(
+    alloc: Global,
+    plant: &Plant,
+    index: u32,
+    window: &Window,
+) -> Result<Text, AllocError>
+    requires { IsWindow plant.now window.now }
+    ensures { IfOk result (λ text. text ≡ trace_rows (names_of plant.now) index window.now.steps) }
+{
+    let streams = plant.streams();
+    let mut rows = Rows::new(alloc);
+    for (step, row) in window.steps.iter().enumerate() {
+        let name = streams[row.stream as usize].name.as_bytes();
+        rows.put_step(index, step as u64, name, row.version, row.refs.as_slice())?;
+    }
+    Ok(Text::new(rows.into_text()?))
+}
+
+/// One row for each unit: its name, its kind and its rank.
+pub fn check_rows(alloc: Global, plant: &Plant) -> Result<Text, AllocError>
+    ensures { IfOk result (λ text. text ≡ rank_rows plant.now) }
+{
+    let units = plant.units();
+    let ranks = plant.ranks();
+    let mut rows = Rows::new(alloc);
+    for u in 0..units.len() {
+        let unit = &units[u];
+        rows.put_rank(unit.name(), unit.kind().as_bytes(), ranks[u])?;
+    }
+    Ok(Text::new(rows.into_text()?))
+}
