@@ -72,6 +72,21 @@ pub fn runs_join()
         ≡ run_streams (on_bands plant) plant carried feeds (k + t) s }
 {}
 
+/// Runs are the same at n ticks where what is carried into the units that are there is the same, and what is fed to the
+/// streams that are there at these ticks.
+pub fn runs_agree()
+    ensures streams { (plant : Plant) (carried others : ℕ → List Interval) (feeds fed : ℕ → ℕ → List Interval) (n : ℕ) →
+        IsRanked plant → ((u : ℕ) → u < length plant.units → carried u ≡ others u) →
+        ((t s f : ℕ) → t < n → s < length plant.streams → origin_of plant s ≡ feed f → feeds t f ≡ fed t f) →
+        (t s : ℕ) → t < n → s < length plant.streams →
+        run_streams (on_bands plant) plant carried feeds t s ≡ run_streams (on_bands plant) plant others fed t s }
+    ensures states { (plant : Plant) (carried others : ℕ → List Interval) (feeds fed : ℕ → ℕ → List Interval) (n : ℕ) →
+        IsRanked plant → ((u : ℕ) → u < length plant.units → carried u ≡ others u) →
+        ((t s f : ℕ) → t < n → s < length plant.streams → origin_of plant s ≡ feed f → feeds t f ≡ fed t f) →
+        (t u : ℕ) → t ≤ n → u < length plant.units →
+        run_states (on_bands plant) plant carried feeds t u ≡ run_states (on_bands plant) plant others fed t u }
+{}
+
 /// The renewal from the run is the run.
 pub fn the_run_renews_to_itself()
     ensures states { (plant : Plant) (carried : ℕ → List Interval) (feeds : ℕ → ℕ → List Interval) (t u : ℕ) →

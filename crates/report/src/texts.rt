@@ -27,12 +27,7 @@ pub fn tube_rows(alloc: Global, plant: &Plant, window: &Window) -> Result<Text, 
 }
 
 /// Adds the rows of a window's tick, counted from its first, stream by stream.
-fn put_tick(
-    rows: &mut Rows,
-    tick: u32,
-    plant: &Plant,
-    window: &Window,
-) -> Result<(), AllocError>
+fn put_tick(rows: &mut Rows, tick: u32, plant: &Plant, window: &Window) -> Result<(), AllocError>
     requires window { IsWindow plant.now window.now }
     requires tick { tick < window.now.ticks }
     ensures { OnOk result (rows.new ≡ rows.old
@@ -40,7 +35,12 @@ fn put_tick(
 {
     for (s, stream) in plant.streams().iter().enumerate() {
         let bands = window.tubes[s].row(tick);
-        rows.put_stream(window.first + tick, stream.name.as_bytes(), stream.signal, bands)?;
+        rows.put_stream(
+            window.first + tick,
+            stream.name.as_bytes(),
+            stream.signal,
+            bands,
+        )?;
     }
     Ok(())
 }

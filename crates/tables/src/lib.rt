@@ -4,7 +4,9 @@
 mod rows;
 mod spaced;
 
-pub use rows::{OUTPUT_HEADER, RANK_HEADER, Rows, TRACE_HEADER, output_header, rank_header, trace_header};
+pub use rows::{
+    OUTPUT_HEADER, RANK_HEADER, Rows, TRACE_HEADER, output_header, rank_header, trace_header,
+};
 
 #[cfg(test)]
 mod tests;
