@@ -1,2 +1,3 @@
 mod ChannelRows
 mod RowText
+mod Spacing

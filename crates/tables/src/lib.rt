@@ -7,6 +7,3 @@ mod spaced;
 pub use rows::{
     OUTPUT_HEADER, RANK_HEADER, Rows, TRACE_HEADER, output_header, rank_header, trace_header,
 };
-
-#[cfg(test)]
-mod tests;

@@ -5,7 +5,7 @@ ghost use Rattle.tables.specs.Steps.{trace_header};
 mod row_writer;
 
 use self::row_writer::{row_writer, write_row};
-use crate::spaced::Spaced;
+use crate::spaced::spaced_text;
 use itoa::Buffer;
 use quant::Band;
 use std::alloc::{AllocError, Global};
@@ -114,16 +114,16 @@ impl Rows {
     // Adds the row of these five texts.
     fn put_texts<'a>(
         &mut self,
-        tick: &'a [u8],
-        name: &'a [u8],
-        channel: &'a [u8],
-        lo: &'a [u8],
-        hi: &'a [u8],
+        first: &'a [u8],
+        second: &'a [u8],
+        third: &'a [u8],
+        fourth: &'a [u8],
+        fifth: &'a [u8],
     ) -> Result<(), AllocError>
-        ensures ok { OnOk result (self.new ≡ self.old ++ line (tick.now ∷ name.now ∷ channel.now ∷ lo.now ∷ hi.now ∷ [])) }
+        ensures ok { OnOk result (self.new ≡ self.old ++ line (first.now ∷ second.now ∷ third.now ∷ fourth.now ∷ fifth.now ∷ [])) }
         ensures err { OnErr result (self.new ≡ []) }
     {
-        self.put(&[tick, name, channel, lo, hi])
+        self.put(&[first, second, third, fourth, fifth])
     }
 
     // Adds the row of one channel.
@@ -183,6 +183,7 @@ impl Rows {
     /// number of the version that it appended, and those of the at most 8 versions that it read, in the order of the ports.
     ///
     /// The one error is want of memory, after which no rows are left.
+    #[tactic(auto, unfolding(crate::specs::Steps::step_row))]
     pub fn put_step(
         &mut self,
         window: u32,
@@ -198,13 +199,13 @@ impl Rows {
         let mut window_text = Buffer::new();
         let mut step_text = Buffer::new();
         let mut version_text = Buffer::new();
-        let inputs = Spaced::new(inputs);
+        let inputs = spaced_text(inputs);
         self.put_texts(
             window_text.format(window).as_bytes(),
             step_text.format(step).as_bytes(),
             name,
             version_text.format(version).as_bytes(),
-            inputs.as_bytes(),
+            inputs.as_str().as_bytes(),
         )
     }
 

@@ -1,6 +1,6 @@
-use super::*;
 use quant::Band;
 use std::test::Fail;
+use tables::{Rows, output_header, rank_header, trace_header};
 
 // A material stream at the first tick, and a signal at the last that there can be.
 const FEED_AND_VALVE: &str = "0,feed,flow,0,1500\n\
@@ -45,5 +45,23 @@ fn ranks(rt: HostRuntime) -> Result<(), Fail> {
     rows.put_rank(b"t1", b"tank", 0)?;
     rows.put_rank(b"m_2", b"mixer", 16)?;
     assert!(rt; rows.into_text()?.as_slice() == b"t1,tank,0\nm_2,mixer,16\n".as_slice());
+    Ok(())
+}
+
+// The first step of a run, which read one version, and one that read 8 of the last that there can be.
+const FIRST_AND_LAST: &str = "0,0,t1.out,1,0\n\
+    4294967295,18446744073709551615,col.bottom,4294967295,\
+    4294967295 0 1 20 300 4000 50000 4294967295\n";
+
+#[test]
+fn steps(rt: HostRuntime) -> Result<(), Fail> {
+    let mut rows = Rows::new(rt.alloc());
+    rows.put(&[b"window", b"step", b"stream", b"version", b"inputs"])?;
+    assert!(rt; rows.into_text()?.as_slice() == trace_header());
+    let mut rows = Rows::new(rt.alloc());
+    rows.put_step(0, 0, b"t1.out", 1, &[0])?;
+    let inputs = [u32::MAX, 0, 1, 20, 300, 4000, 50000, u32::MAX];
+    rows.put_step(u32::MAX, u64::MAX, b"col.bottom", u32::MAX, &inputs)?;
+    assert!(rt; rows.into_text()?.as_slice() == FIRST_AND_LAST.as_bytes());
     Ok(())
 }
