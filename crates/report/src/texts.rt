@@ -33,14 +33,11 @@ fn put_tick(rows: &mut Rows, tick: u32, plant: &Plant, window: &Window) -> Resul
     ensures { OnOk result (rows.new ≡ rows.old
         ++ rows_from (window.now.first + tick) (λ s. at (slice_index_or window.now.tubes s []) tick) 0 (labels_of plant.now)) }
 {
+    prove!(tick < plant.parts().ticks - window.first);
+    let shown = window.first + tick;
     for (s, stream) in plant.streams().iter().enumerate() {
         let bands = window.tubes[s].row(tick);
-        rows.put_stream(
-            window.first + tick,
-            stream.name.as_bytes(),
-            stream.signal,
-            bands,
-        )?;
+        rows.put_stream(shown, stream.name.as_bytes(), stream.signal, bands)?;
     }
     Ok(())
 }

@@ -1,0 +1,37 @@
+-- One tick more of a window's rows.
+use Rattle.std.proofs.Common.{◌≡◌, ℕ, zero, suc, ◌+◌, ◌-◌, List, [], ◌++◌, sym, ap, ◌∙◌, append_assoc, append-nil}
+use Rattle.std.proofs.Common.{add-one, slice_index_or, arith}
+use Rattle.quant.specs.Interval.{Interval}
+use Rattle.relaxation.specs.Tube.{at}
+use Rattle.relax_core.specs.Settled.{WindowOf}
+use Rattle.parts.specs.Parts.{FileParts}
+use Rattle.tables.specs.Output.{Label, rows_of, rows_from, tick_rows}
+use Rattle.report.specs.Output.{labels_of, bands_in}
+
+-- the rows of one tick more
+rows-ticks : (labels : List Label) (bands : ℕ → ℕ → List Interval) (first n : ℕ) →
+    rows_of labels bands first (suc n) ≡ rows_of labels bands first n ++ tick_rows labels bands (first + n)
+rows-ticks labels bands first zero =
+    append-nil (tick_rows labels bands first) ∙ ap (tick_rows labels bands) (omega arith)
+rows-ticks labels bands first (suc n) =
+    ap (λ text. tick_rows labels bands first ++ text) (rows-ticks labels bands (first + 1) n)
+    ∙ sym (append_assoc (tick_rows labels bands first) (rows_of labels bands (first + 1) n)
+    (tick_rows labels bands (first + 1 + n)))
+    ∙ ap (λ t. (tick_rows labels bands first ++ rows_of labels bands (first + 1) n) ++ tick_rows labels bands t)
+    (omega arith)
+
+-- the rows of a tick were added to those of the ticks before it
+pub rows_more : (parts : FileParts) (window : WindowOf) (tick : ℕ) (before after : List ℕ) →
+    before ≡ rows_of (labels_of parts) (bands_in window) window.first tick →
+    after ≡ before
+    ++ rows_from (window.first + tick) (λ s. at (slice_index_or window.tubes s []) tick) 0 (labels_of parts) →
+    after ≡ rows_of (labels_of parts) (bands_in window) window.first (tick + 1)
+rows_more parts window tick before after rows added =
+    let labels = labels_of parts in
+    let first = window.first in
+    let counted : tick ≡ (first + tick) - first = omega arith in
+    added
+    ∙ ap (λ k. before ++ rows_from (first + tick) (λ s. at (slice_index_or window.tubes s []) k) 0 labels) counted
+    ∙ ap (λ text. text ++ tick_rows labels (bands_in window) (first + tick)) rows
+    ∙ sym (rows-ticks labels (bands_in window) first tick)
+    ∙ ap (rows_of labels (bands_in window) first) (sym (add-one tick))
