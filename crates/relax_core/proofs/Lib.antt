@@ -1,7 +1,9 @@
 pub mod Boards
 pub mod Counts
+pub mod Kept
 pub mod Meets
 pub mod Readings
+pub mod Remembered
 pub mod Renewals
 pub mod Rooms
 pub mod Settled

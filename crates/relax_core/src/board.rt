@@ -1,17 +1,18 @@
-ghost use Rattle.std.specs.Prelude.{◌≡◌, ◌<◌, length, IfOk};
+ghost use Rattle.std.specs.Prelude.{◌≡◌, ◌<◌, length, replicate, None, true, IfOk};
+ghost use Rattle.std.specs.Bool.{OnTrue};
 ghost use Rattle.plant_streams.specs.Streams.{streams_of};
 ghost use Rattle.plant.specs.PlantOf.{plant_of};
 ghost use Rattle.flowsheet.specs.Plant.{origin_of};
-ghost use Rattle.relaxation.specs.Core.{versions_of, last_of};
+ghost use Rattle.relaxation.specs.Core.{versions_of, last_of, IsLegal, is_idle};
 ghost use Rattle.relax_core.specs.Board.{IsBoard, opening_board};
-ghost use Rattle.relax_core.specs.Rooms.{HasRooms};
-ghost use Rattle.renewal.specs.Plan.{IsPlan};
+ghost use Rattle.relax_core.specs.Rooms.{AreNewRooms};
+ghost use Rattle.renewal.specs.Plan.{window_of, IsPlan};
 ghost use Rattle.relax_core.specs.Stepping.{reads_for, IsOutputOf, Steps};
 
 use crate::givers::{giver, reads};
 use crate::lines::Lines;
 use crate::making::{append, first_missing};
-use crate::refs::Refs;
+use crate::refs::{Refs, remembers};
 use crate::room::Room;
 use renewal::WindowPlan;
 use std::alloc::{AllocError, Global};
@@ -73,6 +74,8 @@ pub struct Board<'p> {
     rows: Vec<StepRow>,
     /// For each unit.
     rooms: Vec<Room>,
+    /// For each stream the numbers of the versions from which it was last renewed and met.
+    met: Vec<Option<Refs>>,
 }
 
 impl<'p> Model for Board<'p> {
@@ -84,19 +87,31 @@ impl<'p> Model for Board<'p> {
     ghost view = { λ board. record { plan = board.plan.now; versions = board.lines; rows = board.rows.items } };
 
     ghost invariant = { λ board. IsKept
-        (record { plan = board.plan.now; versions = board.lines; rows = board.rows.items }) board.rooms.items };
+        (record { plan = board.plan.now; versions = board.lines; rows = board.rows.items }) board.rooms.items
+        board.met.items };
 }
 
 /// Room for each unit of a plan.
 fn rooms_of(alloc: Global, plan: &WindowPlan<'_>) -> Result<Vec<Room>, AllocError>
     ensures plan { IsPlan plan.now }
-    ensures rooms { IfOk result (λ rooms. HasRooms plan.now rooms.items) }
+    ensures rooms { IfOk result (λ rooms. AreNewRooms plan.now rooms.items) }
 {
     let mut rooms = Vec::new(alloc);
     for unit in 0..plan.plant().units().len() {
         rooms.push(Room::new(alloc, plan, unit as u32)?)?;
     }
     Ok(rooms)
+}
+
+/// No numbers for each stream of a plan.
+fn none_met(alloc: Global, plan: &WindowPlan<'_>) -> Result<Vec<Option<Refs>>, AllocError>
+    ensures { IfOk result (λ met. met.items ≡ replicate (length (streams_of plan.now.parts)) None) }
+{
+    let mut met = Vec::new(alloc);
+    for _ in plan.plant().streams() {
+        met.push(None)?;
+    }
+    Ok(met)
 }
 
 impl<'p> Board<'p> {
@@ -106,11 +121,13 @@ impl<'p> Board<'p> {
     {
         let lines = Lines::open(alloc, plan)?;
         let rooms = rooms_of(alloc, plan)?;
+        let met = none_met(alloc, plan)?;
         Ok(Board {
             plan,
             lines,
             rows: Vec::new(alloc),
             rooms,
+            met,
         })
     }
 
@@ -138,8 +155,20 @@ impl<'p> Board<'p> {
         self.rows.as_slice()
     }
 
+    /// Whether a stream was last renewed and met from the versions with these numbers. Its step from them narrows
+    /// nothing.
+    fn is_met(&self, stream: u32, versions: &[u32]) -> bool
+        requires { stream < length (streams_of self.now.plan.parts) }
+        ensures { OnTrue result
+            (IsLegal (window_of self.now.plan) self.now.versions (record { stream = stream; inputs = versions.now })
+            × (is_idle (window_of self.now.plan) self.now.versions (record { stream = stream; inputs = versions.now })
+            ≡ true)) }
+    {
+        remembers(&self.met[stream as usize], versions)
+    }
+
     /// Renews a stream from the versions with these numbers of what its unit reads, and appends the meet with its last
-    /// version where that is narrower.
+    /// version where that is narrower. Where it was last renewed from the same numbers nothing is left to do.
     pub fn step(
         &mut self,
         alloc: Global,
@@ -151,19 +180,24 @@ impl<'p> Board<'p> {
         requires counted { length versions.now ≡ length (reads_for self.old.plan stream) }
         ensures { Steps result self.old (record { stream = stream; inputs = versions.now }) self.new }
     {
+        if self.is_met(stream, versions) {
+            return Ok(Stepped::Same);
+        }
         let (unit, port) = giver(self.plan, stream);
         if let Some(fault) = first_missing(&self.lines, reads(self.plan, unit), versions) {
             return Err(fault);
         }
         let room = &mut self.rooms[unit as usize];
         room.renew(self.plan, unit, &self.lines, versions);
-        append(
+        let stepped = append(
             alloc,
             &mut self.lines,
             &mut self.rows,
             stream,
             room.outputs.port(port),
             versions,
-        )
+        )?;
+        self.met[stream as usize] = Some(Refs::of(versions));
+        Ok(stepped)
     }
 }
