@@ -21,7 +21,8 @@ use Rattle.relax_core.proofs.Remembered.{renewed-stays, met-stays, met-set}
 use Rattle.relax_core.proofs.Rooms.{rooms-set, renewed-set}
 use Rattle.relax_core.proofs.Steps.{appended-is, appended-few, appended-grown, appended-legal, appended-idle}
 
-module _ (board : BoardOf) (rooms : List Room) (met : List (Option (List ℕ))) (kept : IsKept board rooms met)
+module _ (board : BoardOf) (rooms : List Room) (met : List (Option (List ℕ))) (order : List ℕ)
+    (kept : IsKept board rooms met order)
     (s : ℕ) (numbers : List ℕ) (u p : ℕ) (l : s < length (streams_of board.plan.parts))
     (origin : origin_of (plant_of board.plan.parts) s ≡ port u p)
     (below : u < length (units_of board.plan.parts))
@@ -34,7 +35,7 @@ module _ (board : BoardOf) (rooms : List Room) (met : List (Option (List ℕ))) 
   -- the room, whatever is appended
   pub kept-room : (result : Result Stepped StepFault) (more : Versions) (longer : List RowOf) →
       Appends result s tube numbers board.versions board.rows more longer →
-      IsKept (board_of board.plan more longer) (slice_set rooms u room) met
+      IsKept (board_of board.plan more longer) (slice_set rooms u room) met order
   kept-room result more longer h =
       let grown = appended-grown board kept.steps s numbers u p l origin there tube same result more longer h in
       let made = subst (IsRenewedFrom board.plan board.versions u room.outputs) (sym memory) (there, renewed) in
@@ -47,12 +48,13 @@ module _ (board : BoardOf) (rooms : List Room) (met : List (Option (List ℕ))) 
             (renewed-set board.plan board.versions u room rooms kept.rooms kept.renewed below made);
         counted = kept.counted;
         met = met-stays board.versions more grown board.plan met kept.met;
+        order = kept.order;
       }
 
   -- and the numbers, where memory did not run out
   pub kept-numbers : (made : Stepped) (more : Versions) (longer : List RowOf) →
       Appends (Ok made) s tube numbers board.versions board.rows more longer →
-      IsKept (board_of board.plan more longer) (slice_set rooms u room) (slice_set met s (Some numbers))
+      IsKept (board_of board.plan more longer) (slice_set rooms u room) (slice_set met s (Some numbers)) order
   kept-numbers made more longer h =
       let next = kept-room (Ok made) more longer h in
       record {
@@ -64,4 +66,5 @@ module _ (board : BoardOf) (rooms : List Room) (met : List (Option (List ℕ))) 
         met = met-set board.plan more met s numbers (omega (arith, next.counted))
             (appended-legal board kept.steps s numbers u p l origin there tube same made more longer h)
             (appended-idle board kept.steps s numbers u p l origin there tube same made more longer h) next.met;
+        order = next.order;
       }

@@ -2,6 +2,7 @@ pub mod Boards
 pub mod Counts
 pub mod Kept
 pub mod Meets
+pub mod Orders
 pub mod Readings
 pub mod Remembered
 pub mod Renewals

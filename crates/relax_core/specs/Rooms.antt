@@ -7,6 +7,7 @@ use Rattle.plant_units.specs.Units.{units_of}
 use Rattle.renewal.specs.Plan.{PlanOf, window_of}
 use Rattle.renewal.specs.Room.{RenewalOf, planned, AreOpened, HasRoomFor, renewal_of}
 use Rattle.relax_core.specs.Board.{BoardOf, IsBoard}
+use Rattle.relax_core.specs.Order.{IsOrder}
 use Rattle.relax_core.specs.declared.room.Room.{Room}
 
 -- the unit may be renewed in it
@@ -53,11 +54,12 @@ abbrev pub AreMet : PlanOf → Versions → List (Option (List ℕ)) → Type 0
 AreMet plan state met = (s : ℕ) → IsMetFrom plan state s (slice_index_or met s None)
 
 -- What a board keeps: its steps, numbers of versions in 32 bits, room for the next steps, the last renewal of each
--- unit, and the numbers that each stream was last met with.
-pub record IsKept (board : BoardOf) (made : List Room) (last : List (Option (List ℕ))) : Type 0 where
+-- unit, the numbers that each stream was last met with, and the order of sweeps.
+pub record IsKept (board : BoardOf) (made : List Room) (last : List (Option (List ℕ))) (turns : List ℕ) : Type 0 where
   pub steps : IsBoard board
   pub few : (s : ℕ) → length (versions_of board.versions s) < 2 ^ 32
   pub rooms : HasRooms board.plan made
   pub renewed : AreRenewed board.plan board.versions made
   pub counted : length last ≡ length (streams_of board.plan.parts)
   pub met : AreMet board.plan board.versions last
+  pub order : IsOrder board.plan turns

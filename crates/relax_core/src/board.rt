@@ -1,10 +1,11 @@
-ghost use Rattle.std.specs.Prelude.{◌≡◌, ◌<◌, length, replicate, None, true, IfOk};
+ghost use Rattle.std.specs.Prelude.{◌≡◌, ◌<◌, ◌≤◌, length, take, replicate, None, true, IfOk};
 ghost use Rattle.std.specs.Bool.{OnTrue};
 ghost use Rattle.plant_streams.specs.Streams.{streams_of};
 ghost use Rattle.plant.specs.PlantOf.{plant_of};
 ghost use Rattle.flowsheet.specs.Plant.{origin_of};
 ghost use Rattle.relaxation.specs.Core.{versions_of, last_of, IsLegal, is_idle};
 ghost use Rattle.relax_core.specs.Board.{IsBoard, opening_board};
+ghost use Rattle.relax_core.specs.Order.{IsOrder};
 ghost use Rattle.relax_core.specs.Rooms.{AreNewRooms};
 ghost use Rattle.renewal.specs.Plan.{window_of, IsPlan};
 ghost use Rattle.relax_core.specs.Stepping.{reads_for, IsOutputOf, Steps};
@@ -12,6 +13,7 @@ ghost use Rattle.relax_core.specs.Stepping.{reads_for, IsOutputOf, Steps};
 use crate::givers::{giver, reads};
 use crate::lines::Lines;
 use crate::making::{append, first_missing};
+use crate::order::{STREAMS, flow_order};
 use crate::refs::{Refs, remembers};
 use crate::room::Room;
 use renewal::WindowPlan;
@@ -76,6 +78,8 @@ pub struct Board<'p> {
     rooms: Vec<Room>,
     /// For each stream the numbers of the versions from which it was last renewed and met.
     met: Vec<Option<Refs>>,
+    /// The streams in the order of the flow.
+    order: Vec<u32>,
 }
 
 impl<'p> Model for Board<'p> {
@@ -88,7 +92,7 @@ impl<'p> Model for Board<'p> {
 
     ghost invariant = { λ board. IsKept
         (record { plan = board.plan.now; versions = board.lines; rows = board.rows.items }) board.rooms.items
-        board.met.items };
+        board.met.items board.order.items };
 }
 
 /// Room for each unit of a plan.
@@ -122,12 +126,14 @@ impl<'p> Board<'p> {
         let lines = Lines::open(alloc, plan)?;
         let rooms = rooms_of(alloc, plan)?;
         let met = none_met(alloc, plan)?;
+        let order = flow_order(alloc, plan)?;
         Ok(Board {
             plan,
             lines,
             rows: Vec::new(alloc),
             rooms,
             met,
+            order,
         })
     }
 
@@ -153,6 +159,16 @@ impl<'p> Board<'p> {
         ensures board { IsBoard self.now }
     {
         self.rows.as_slice()
+    }
+
+    /// Writes the streams in the order of the flow to the front of `order`, and tells how many they are.
+    pub(crate) fn write_order(&self, order: &mut [u32; STREAMS]) -> usize
+        ensures count { result ≤ 1024 }
+        ensures order { IsOrder self.now.plan (take result order.new) }
+    {
+        let streams = self.order.as_slice();
+        order[..streams.len()].copy_from_slice(streams);
+        streams.len()
     }
 
     /// Whether a stream was last renewed and met from the versions with these numbers. Its step from them narrows

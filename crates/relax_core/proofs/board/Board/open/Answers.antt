@@ -20,6 +20,7 @@ invariant_of-result c =
       renewed = new-renewed plan _ c.in_ok-rooms.rooms.items c.in_ok-rooms.ensures.rooms;
       counted = ap length c.in_ok-met.ensures ∙ length-replicate (length (streams_of plan.parts)) None;
       met = none-met plan _ (length (streams_of plan.parts)) c.in_ok-met.met.items c.in_ok-met.ensures;
+      order = c.in_ok-order.ensures;
     }
 
 pub returns : goal.returns

@@ -76,7 +76,8 @@ invariant_of-self c =
     let there = subst (λ (streams : List ℕ). AreThere c.self.inside.lines streams c.args.versions.now) c.reads.ensures.reads c.in_default.ensures in
     let same = port-is plan u (named c.self.inside.lines (planned plan u).reads c.args.versions.now) c.renew.new.self.outputs p
     c.port.result.now c.renew.ensures.renewed c.port.ensures c.giver-unit.ensures.output in
-    kept-room board c.self.inside.rooms.items c.self.inside.met.items c.self.invariant c.args.stream c.args.versions.now
+    kept-room board c.self.inside.rooms.items c.self.inside.met.items c.self.inside.order.items
+    c.self.invariant c.args.stream c.args.versions.now
     u p below c.giver-unit.ensures.giver c.giver-unit.ensures.unit there c.renew.new.self c.renew.ensures.room
     c.renew.ensures.renewed c.renew.ensures.kept c.port.result.now same c.append.result c.append.new.lines
     c.append.new.rows.items c.append.ensures
@@ -93,9 +94,10 @@ invariant_of-self-2 c =
     c.port.result.now c.renew.ensures.renewed c.port.ensures c.giver-unit.ensures.output in
     subst (λ (numbers : List ℕ). IsKept (board_of plan c.append.new.lines c.append.new.rows.items)
     (slice_set c.self.inside.rooms.items u c.renew.new.self)
-    (slice_set c.self.inside.met.items c.args.stream (Some numbers)))
+    (slice_set c.self.inside.met.items c.args.stream (Some numbers)) c.self.inside.order.items)
     (sym c.of.ensures)
-    (kept-numbers board c.self.inside.rooms.items c.self.inside.met.items c.self.invariant c.args.stream
+    (kept-numbers board c.self.inside.rooms.items c.self.inside.met.items c.self.inside.order.items
+    c.self.invariant c.args.stream
     c.args.versions.now u p below c.giver-unit.ensures.giver c.giver-unit.ensures.unit there c.renew.new.self
     c.renew.ensures.room c.renew.ensures.renewed c.renew.ensures.kept c.port.result.now same c.in_ok-stepped.stepped
     c.append.new.lines c.append.new.rows.items c.in_ok-stepped.ensures)
