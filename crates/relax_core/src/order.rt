@@ -189,8 +189,9 @@ fn place_of(streams: &[Stream], places: &[usize], stream: u32) -> usize {
 fn numbered(alloc: Global, plan: &WindowPlan<'_>) -> Result<Vec<u32>, AllocError>
     ensures { IfOk result (λ order. order.items ≡ range_with_len 0 (length (streams_of plan.now.parts))) }
 {
+    let count = plan.plant().streams().len();
     let mut order = Vec::new(alloc);
-    for stream in 0..plan.plant().streams().len() {
+    for stream in 0..count {
         order.push(stream as u32)?;
     }
     Ok(order)

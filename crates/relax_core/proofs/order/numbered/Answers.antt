@@ -10,7 +10,7 @@ pub overflow_cast-stream : goal.overflow_cast-stream
 overflow_cast-stream c = omega (
   arith,
   c.loop-stream-test.true,
-  ap length c.streams-stream-end.ensures,
+  ap length c.streams-count.ensures,
   ap (λ (parts : FileParts). length (streams_of parts)) c.plant.ensures.plant,
   streams-few c.args.plan.now c.plant.ensures.plan,
 )
