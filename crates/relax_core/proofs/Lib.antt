@@ -1,9 +1,12 @@
 pub mod Boards
 pub mod Counts
+pub mod Kept
 pub mod Lasts
 pub mod Lefts
 pub mod Meets
+pub mod Orders
 pub mod Readings
+pub mod Remembered
 pub mod Renewals
 pub mod Rooms
 pub mod Settled

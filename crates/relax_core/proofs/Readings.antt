@@ -54,12 +54,13 @@ there-each state (s ∷ reads) [] e h = absurd (omega arith)
 there-each state (s ∷ reads) (k ∷ numbers) e h =
     (h 0 (omega arith), there-each state reads numbers (omega arith) (λ p l. h (suc p) (omega arith)))
 
-named-counted : (state : Versions) (reads numbers : List ℕ) → length numbers ≡ length reads → length (named state reads numbers) ≡ length reads
+pub named-counted : (state : Versions) (reads numbers : List ℕ) → length numbers ≡ length reads →
+    length (named state reads numbers) ≡ length reads
 named-counted state [] numbers e = refl
 named-counted state (s ∷ reads) [] e = absurd (omega arith)
 named-counted state (s ∷ reads) (k ∷ numbers) e = ap suc (named-counted state reads numbers (omega arith))
 
-named-at : (state : Versions) (reads numbers : List ℕ) (p : ℕ) → length numbers ≡ length reads → p < length reads →
+pub named-at : (state : Versions) (reads numbers : List ℕ) (p : ℕ) → length numbers ≡ length reads → p < length reads →
     slice_index_or (named state reads numbers) p [] ≡ version_at state (slice_index reads p) (slice_index numbers p)
 named-at state [] numbers p e l = absurd (omega arith)
 named-at state (s ∷ reads) [] p e l = absurd (omega arith)

@@ -1,7 +1,7 @@
 -- A board after some sweeps: it goes on by their narrowing steps, and enough of them, or an idle one, leave it quiet.
 use Rattle.std.proofs.Common.{◌≡◌, ◌∙◌, ℕ, ◌+◌, ◌*◌, ◌<◌, ◌≤◌, List, [], ◌∷◌, ◌++◌, length, max, fold}
 use Rattle.std.proofs.Common.{refl, sym, ap, subst, arith, false}
-use Rattle.std.specs.Prelude.{Bool}
+use Rattle.std.specs.Prelude.{Bool, count_by, ◌==◌}
 use Rattle.std.proofs.lemmas.List.{length_push}
 use Rattle.std.proofs.Math.Nat.{mul-le-mul_left, mul-le-mul_right}
 use Rattle.relaxation.specs.Window.{Window}
@@ -13,15 +13,16 @@ use Rattle.relaxation.proofs.Places.{all-quiet}
 use Rattle.relaxation.proofs.States.{KeepsRun}
 use Rattle.relaxation.proofs.Sweeps.{sweeps-kept, sweeps-below}
 use Rattle.parts.specs.Parts.{FileParts}
-use Rattle.plant_streams.specs.Streams.{streams_of}
 use Rattle.plant.specs.PlantOf.{plant_of, ranks_of, most_rank}
 use Rattle.plant.proofs.Lookups.{streams-counted}
 use Rattle.plant.proofs.Ranked.{greatest_most}
 use Rattle.renewal.specs.Plan.{PlanOf, IsPlan, window_of}
 use Rattle.relax_core.specs.Board.{BoardOf, IsBoard}
+use Rattle.relax_core.specs.Order.{IsOrder}
 use Rattle.relax_core.specs.Settling.{after_steps, GoesOn}
 use Rattle.relax_core.specs.Turns.{IsSweeping}
 use Rattle.relax_core.proofs.Boards.{board-open, board-kept}
+use Rattle.relax_core.proofs.Orders.{order-once, order-covers}
 use Rattle.relax_core.proofs.Sweeping.{goes_nowhere, goes_further, sweep-goes, sweep-leaves}
 
 -- the board after k sweeps
@@ -49,35 +50,35 @@ sweeps-leave window state [] steps = refl
 sweeps-leave window state (first ∷ sweeps) steps = sweeps-leave window (replay window state first) sweeps steps
 
 -- a sweep in which each stream has had its turn
-sweep-whole : (board new : BoardOf) (narrows : Bool)
-    (h : IsSweeping board (length (streams_of board.plan.parts)) narrows new) →
-    IsSweep (window_of board.plan) board.versions h.steps
-sweep-whole board new narrows h = record {
+sweep-whole : (board new : BoardOf) (order : List ℕ) (narrows : Bool) → IsOrder board.plan order →
+    (h : IsSweeping board order narrows new) → IsSweep (window_of board.plan) board.versions h.steps
+sweep-whole board new order narrows each h = record {
   legal = h.legal;
   newest = h.newest;
-  once = h.once;
-  covers = λ s l. h.covers s (subst (λ n. s < n) (streams-counted board.plan.parts) l);
+  once = λ s. omega (arith, h.few s, order-once board.plan order each s);
+  covers = λ s l. h.covers s
+      (order-covers board.plan order each s (subst (λ n. s < n) (streams-counted board.plan.parts) l));
 }
 
 -- one that narrowed nothing leaves the board quiet
-pub sweep-quiet : (board new : BoardOf) → IsSweeping board (length (streams_of board.plan.parts)) false new →
-    IsQuiet (window_of new.plan) new.versions
-sweep-quiet board new h =
+pub sweep-quiet : (board new : BoardOf) (order : List ℕ) → IsOrder board.plan order →
+    IsSweeping board order false new → IsQuiet (window_of new.plan) new.versions
+sweep-quiet board new order each h =
     subst (λ b. IsQuiet (window_of b.plan) b.versions) (sym (h.leads ∙ ap (after_steps board) (h.none refl)))
-    (idle-quiet (window_of board.plan) board.versions h.steps (sweep-whole board new false h) (h.none refl))
+    (idle-quiet (window_of board.plan) board.versions h.steps (sweep-whole board new order false each h) (h.none refl))
 
 module _ (start : BoardOf) (k : ℕ) (board : BoardOf) (h : IsSettling start k board) where
-  plan-same : board.plan ≡ start.plan
+  pub plan-same : board.plan ≡ start.plan
   plan-same = ap (λ (b : BoardOf). b.plan) h.goes.leads
 
   -- a sweep more
-  pub settling-more : (new : BoardOf) (narrows : Bool) →
-      IsSweeping board (length (streams_of board.plan.parts)) narrows new → IsSettling start (k + 1) new
-  settling-more new narrows s =
+  pub settling-more : (new : BoardOf) (order : List ℕ) (narrows : Bool) → IsOrder board.plan order →
+      IsSweeping board order narrows new → IsSettling start (k + 1) new
+  settling-more new order narrows each s =
       let window : Window = window_of start.plan in
       let whole : IsSweep window board.versions s.steps
       = subst (λ (p : PlanOf). IsSweep (window_of p) board.versions s.steps) plan-same
-      (sweep-whole board new narrows s) in
+      (sweep-whole board new order narrows each s) in
       record {
         sweeps = h.sweeps ++ s.steps ∷ [];
         counted = length_push h.sweeps s.steps ∙ ap (λ n. n + 1) h.counted;
@@ -104,16 +105,17 @@ module _ (start : BoardOf) (k : ℕ) (board : BoardOf) (h : IsSettling start k b
         omega (arith, e, h.counted, few)
 
     -- and in a sweep that did not come to its end one more
-    pub sweeping-few : (n : ℕ) (narrows : Bool) (new : BoardOf) → IsSweeping board n narrows new → (s : ℕ) →
+    pub sweeping-few : (turned : List ℕ) (narrows : Bool) (new : BoardOf) →
+        IsSweeping board turned narrows new → (s : ℕ) → count_by (λ r. r == s) turned ≤ 1 →
         length (versions_of new.versions s) ≤ length (versions_of start.versions s) + (k + 1)
-    sweeping-few n narrows new w s =
+    sweeping-few turned narrows new w s once =
         let window : Window = window_of start.plan in
         let e : new.versions ≡ replay window board.versions w.steps
-        = sweep-leaves board n narrows new w
+        = sweep-leaves board turned narrows new w
         ∙ ap (λ (p : PlanOf). replay (window_of p) board.versions w.steps) plan-same in
         let count = steps-count window (board-open start is) board.versions w.steps settling-kept
         (subst (λ (p : PlanOf). AreLegal (window_of p) board.versions w.steps) plan-same w.legal) s in
-        omega (arith, ap (λ state. length (versions_of state s)) e, count, w.once s, settling-few s)
+        omega (arith, ap (λ state. length (versions_of state s)) e, count, w.few s, once, settling-few s)
 
     -- as many sweeps as there are places leave it quiet
     pub settling-quiet : start.plan.ticks * ((plant_of start.plan.parts).top + 1) ≤ k →

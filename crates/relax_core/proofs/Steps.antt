@@ -1,13 +1,17 @@
 -- A step on a board: it is legal, and what is appended makes the board after it.
-use Rattle.std.proofs.Common.{◌≡◌, ◌∙◌, ℕ, ◌<◌, ◌^◌, List, [], ◌∷◌, ◌++◌, length, sym, ap, subst, arith, inl, inr, false, Ok, Err, get_or-set_same, get_or-set_other}
+use Rattle.std.proofs.Common.{◌≡◌, ◌∙◌, ℕ, ◌<◌, ◌^◌, List, [], ◌∷◌, ◌++◌, length, refl}
+use Rattle.std.proofs.Common.{sym, ap, subst, arith, inl, inr, true, false, Ok, Err, get_or-set_same, get_or-set_other}
 use Rattle.std.specs.Prelude.{Result, slice_set, slice_index_or}
 use Rattle.std.proofs.lemmas.Bool.{cases_eq}
 use Rattle.std.proofs.lemmas.List.{length_push}
 use Rattle.flowsheet.specs.Plant.{port, origin_of}
 use Rattle.relaxation.specs.Tube.{Tube, IsWithin, HasNumbers, is_within, meet}
 use Rattle.relaxation.specs.Window.{Window, renewal, run_tube}
-use Rattle.relaxation.specs.Core.{Versions, Step, versions_of, last_of, named, AreThere, origin_renewal, step_renewal, IsLegalFrom, IsLegal, is_idle}
-use Rattle.relaxation.proofs.Sequences.{after-narrows}
+use Rattle.relaxation.specs.Core.{Versions, Step, versions_of, last_of, named, AreThere}
+use Rattle.relaxation.specs.Core.{origin_renewal, step_renewal, IsLegalFrom, IsLegal, is_idle, after_step}
+use Rattle.relaxation.proofs.Growth.{AreGrown, grown_itself, step-grown, done-idle}
+use Rattle.relaxation.proofs.Sequences.{after-idle, after-narrows}
+use Rattle.relaxation.proofs.Stays.{legal-stays}
 use Rattle.relaxation.proofs.States.{step-numbers, renewal-holds, last-holds}
 use Rattle.tubes.specs.Shape.{HasShapeOf}
 use Rattle.plant_streams.specs.Streams.{streams_of}
@@ -89,6 +93,38 @@ module _ (board : BoardOf) (is : IsBoard board) (s : ℕ) (numbers : List ℕ) (
     appended-steps (Ok stepped.Same) more longer h = (step-legal, idle-as h.0, same-board board.plan _ more _ longer h.1 h.2)
     appended-steps (Err (fault.NoSuchVersion input wanted have)) more longer h = absurd h
     appended-steps (Err fault.NoMemory) more longer h = same-board board.plan _ more _ longer h.0 h.1
+
+    -- the versions are those after the step, unless memory ran out
+    after-versions : (stepped : Stepped) (more : Versions) (longer : List RowOf) →
+        Appends (Ok stepped) s tube numbers board.versions board.rows more longer →
+        more ≡ after_step window board.versions step
+    after-versions (stepped.Narrowed number) more longer h =
+        ap (λ (b : BoardOf). b.versions) (narrowed more longer h.0 h.3 h.4)
+    after-versions stepped.Same more longer h = h.1 ∙ sym (after-idle window board.versions step (idle-as h.0))
+
+    -- those that are there stay
+    pub appended-grown : (result : Result Stepped StepFault) (more : Versions) (longer : List RowOf) →
+        Appends result s tube numbers board.versions board.rows more longer → AreGrown board.versions more
+    appended-grown (Ok made) more longer h = subst (AreGrown board.versions) (sym (after-versions made more longer h))
+        (step-grown window (board-open board is) board.versions (board-kept board is) step step-legal)
+    appended-grown (Err (fault.NoSuchVersion input wanted have)) more longer h = absurd h
+    appended-grown (Err fault.NoMemory) more longer h =
+        subst (AreGrown board.versions) (sym h.0) (grown_itself board.versions)
+
+    -- and the step is legal once more, and narrows nothing
+    pub appended-legal : (made : Stepped) (more : Versions) (longer : List RowOf) →
+        Appends (Ok made) s tube numbers board.versions board.rows more longer →
+        IsLegal (window_of board.plan) more step
+    appended-legal made more longer h =
+        legal-stays board.versions more (λ q. (appended-grown (Ok made) more longer h q).first) window step step-legal
+
+    pub appended-idle : (made : Stepped) (more : Versions) (longer : List RowOf) →
+        Appends (Ok made) s tube numbers board.versions board.rows more longer →
+        is_idle (window_of board.plan) more step ≡ true
+    appended-idle made more longer h =
+        subst (λ state. is_idle window state step ≡ true) (sym (after-versions made more longer h))
+        (done-idle window (board-open board is) board.versions (step ∷ []) step (board-kept board is) (step-legal, tt)
+        (0, omega arith, refl))
 
 -- numbers of versions stay in 32 bits
 abbrev pub AreFew : Versions → Type 0

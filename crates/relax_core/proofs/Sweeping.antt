@@ -1,9 +1,8 @@
 -- A board goes on by steps, and by the turn of one stream more in a sweep.
-use Rattle.std.proofs.Common.{◌≡◌, ◌≢◌, ◌∙◌, ℕ, zero, suc, ◌+◌, ◌≤◌, List, [], ◌∷◌, ◌++◌, length, map, Contains}
-use Rattle.std.proofs.Common.{refl, sym, ap, subst, arith, inl, inr, true, false, cond, eq-eqb, append_assoc}
+use Rattle.std.proofs.Common.{◌≡◌, ◌∙◌, ℕ, zero, suc, ◌+◌, ◌≤◌, List, [], ◌∷◌, ◌++◌, length, map, Contains}
+use Rattle.std.proofs.Common.{refl, sym, ap, subst, arith, inl, inr, true, false, cond, append_assoc}
 use Rattle.std.specs.Prelude.{Bool, Ok, count_by, ◌==◌}
-use Rattle.std.proofs.lemmas.Bool.{cases_Bool, cases_eq}
-use Rattle.std.proofs.lemmas.Bool.Decides.{nat_tests}
+use Rattle.std.proofs.lemmas.Bool.{cases_Bool}
 use Rattle.std.proofs.lemmas.List.{map-append, append-nil}
 use Rattle.std.proofs.lemmas.List.Sums.{sum_by-append, sum_by-cons}
 use Rattle.std.proofs.lemmas.List.Elements.{Contains-append_left, Contains-append_cases, Contains-push}
@@ -97,23 +96,22 @@ newest-last window state steps (s ∷ streams) =
     (omega arith, newest-last window state steps streams)
 
 -- no stream has had its turn
-pub sweep-none : (start : BoardOf) → IsSweeping start 0 false start
+pub sweep-none : (start : BoardOf) → IsSweeping start [] false start
 unfolding goes_nowhere
 sweep-none start = record {
   steps = [];
   legal = tt;
   newest = λ step c. absurd (omega (arith, c.1));
-  once = λ s. omega arith;
-  below = λ s l. refl;
-  covers = λ s l. absurd (omega arith);
+  few = λ s. omega arith;
+  covers = λ s c. absurd (omega (arith, c.1));
   leads = (goes_nowhere start).leads;
   none = λ e. refl;
 }
 
 -- a sweep goes on from where it began
-pub sweep-goes : (start : BoardOf) (n : ℕ) (narrows : Bool) (board : BoardOf) → IsSweeping start n narrows board →
-    GoesOn start board
-sweep-goes start n narrows board h = record {
+pub sweep-goes : (start : BoardOf) (turned : List ℕ) (narrows : Bool) (board : BoardOf) →
+    IsSweeping start turned narrows board → GoesOn start board
+sweep-goes start turned narrows board h = record {
   steps = narrowing (window_of start.plan) start.versions h.steps;
   legal = narrowing-legal (window_of start.plan) start.versions h.steps h.legal;
   narrowing = narrowing-narrowing (window_of start.plan) start.versions h.steps;
@@ -121,47 +119,37 @@ sweep-goes start n narrows board h = record {
 }
 
 -- its versions are what its steps leave
-pub sweep-leaves : (start : BoardOf) (n : ℕ) (narrows : Bool) (board : BoardOf) (h : IsSweeping start n narrows board) →
-    board.versions ≡ replay (window_of start.plan) start.versions h.steps
-sweep-leaves start n narrows board h =
+pub sweep-leaves : (start : BoardOf) (turned : List ℕ) (narrows : Bool) (board : BoardOf)
+    (h : IsSweeping start turned narrows board) → board.versions ≡ replay (window_of start.plan) start.versions h.steps
+sweep-leaves start turned narrows board h =
     ap (λ (b : BoardOf). b.versions) h.leads ∙ narrowing-replay (window_of start.plan) start.versions h.steps
 
 -- it may be said that it narrowed
-sweep-flag : (start : BoardOf) (n : ℕ) (narrows said : Bool) (board : BoardOf) → IsSweeping start n narrows board →
-    (said ≡ false → narrows ≡ false) → IsSweeping start n said board
-sweep-flag start n narrows said board h k = record {
+sweep-flag : (start : BoardOf) (turned : List ℕ) (narrows said : Bool) (board : BoardOf) →
+    IsSweeping start turned narrows board → (said ≡ false → narrows ≡ false) → IsSweeping start turned said board
+sweep-flag start turned narrows said board h k = record {
   steps = h.steps;
   legal = h.legal;
   newest = h.newest;
-  once = h.once;
-  below = h.below;
+  few = h.few;
   covers = h.covers;
   leads = h.leads;
   none = λ e. h.none (k e);
 }
 
--- the turn of a feed changes nothing
-sweep-fed : (start board : BoardOf) (n f : ℕ) (narrows : Bool) → IsSweeping start n narrows board →
-    origin_of (plant_of start.plan.parts) n ≡ feed f → IsSweeping start (n + 1) narrows board
-sweep-fed start board n f narrows h o = record {
-  steps = h.steps;
-  legal = h.legal;
-  newest = h.newest;
-  once = h.once;
-  below = λ s l. h.below s (omega arith);
-  covers = λ s l. elim (cases_eq s n) [
-    | inl e ↦
-        (let window = window_of start.plan in
-        inr (subst (λ i. IsSettled window start.versions i (origin_of window.plant i)) (sym e)
-        (subst (IsSettled window start.versions n) (sym o) tt)))
-    | inr ne ↦ h.covers s (omega arith)
-  ];
-  leads = h.leads;
-  none = h.none;
-}
+-- a sweep that is cut off by a turn that changed nothing
+pub sweep-cut : (start board new : BoardOf) (turned : List ℕ) (narrows : Bool) →
+    IsSweeping start turned narrows board → new ≡ board → IsSweeping start turned true new
+sweep-cut start board new turned narrows h e = subst (IsSweeping start turned true) (sym e)
+    (sweep-flag start turned narrows true board h (λ said. absurd (let clash : ⊥ = cc in clash)))
+
+-- its plan is the one that it began with
+pub sweep-plan : (start : BoardOf) (turned : List ℕ) (narrows : Bool) (board : BoardOf) →
+    IsSweeping start turned narrows board → board.plan ≡ start.plan
+sweep-plan start turned narrows board h = ap (λ (b : BoardOf). b.plan) h.leads
 
 -- the only one
-only_there : (x y : Step) → Contains (x ∷ []) y → x ≡ y
+only_there : {X : Type 0} (x y : X) → Contains (x ∷ []) y → x ≡ y
 only_there x y (zero, l, e) = e
 only_there x y (suc k, l, e) = absurd (omega arith)
 
@@ -169,15 +157,36 @@ only_there x y (suc k, l, e) = absurd (omega arith)
 abbrev marks : ℕ → ℕ → ℕ
 marks n s = cond (n == s) 1 0
 
-marks-itself : (n : ℕ) → marks n n ≡ 1
-marks-itself n = rw (eq-eqb n n refl) refl
+-- a stream more
+turns-more : (turned : List ℕ) (n s : ℕ) →
+    count_by (λ r. r == s) (turned ++ n ∷ []) ≡ count_by (λ r. r == s) turned + marks n s
+turns-more turned n s =
+    let marked = λ (r : ℕ). marks r s in
+    omega (arith, sum_by-append marked turned (n ∷ []), sum_by-cons marked n [])
 
-marks-other : (n s : ℕ) → s ≢ n → marks n s ≡ 0
-marks-other n s ne = grind (arith, nat_tests)
+-- the turn of a feed changes nothing
+sweep-fed : (start board : BoardOf) (turned : List ℕ) (n f : ℕ) (narrows : Bool) →
+    IsSweeping start turned narrows board → origin_of (plant_of start.plan.parts) n ≡ feed f →
+    IsSweeping start (turned ++ n ∷ []) narrows board
+sweep-fed start board turned n f narrows h o = record {
+  steps = h.steps;
+  legal = h.legal;
+  newest = h.newest;
+  few = λ s. omega (arith, h.few s, turns-more turned n s);
+  covers = λ s c. elim (Contains-append_cases turned (n ∷ []) s c) [
+    | inl d ↦ h.covers s d
+    | inr d ↦
+        (let window = window_of start.plan in
+        inr (subst (λ i. IsSettled window start.versions i (origin_of window.plant i)) (only_there n s d)
+        (subst (IsSettled window start.versions n) (sym o) tt)))
+  ];
+  leads = h.leads;
+  none = h.none;
+}
 
 -- that of another adds its step
-module _ (start board : BoardOf) (n u p : ℕ) (o : origin_of (plant_of start.plan.parts) n ≡ port u p) (before : Bool)
-    (h : IsSweeping start n before board) where
+module _ (start board : BoardOf) (turned : List ℕ) (n u p : ℕ) (o : origin_of (plant_of start.plan.parts) n ≡ port u p)
+    (before : Bool) (h : IsSweeping start turned before board) where
   abbrev window : Window
   window = window_of start.plan
 
@@ -214,7 +223,7 @@ module _ (start board : BoardOf) (n u p : ℕ) (o : origin_of (plant_of start.pl
 
   sweep-step : (new : BoardOf) (narrows : Bool) → IsLegal window left (from left) →
       new ≡ after_steps start (narrowing window start.versions all) →
-      (narrows ≡ false → narrowing window start.versions all ≡ []) → IsSweeping start (n + 1) narrows new
+      (narrows ≡ false → narrowing window start.versions all ≡ []) → IsSweeping start (turned ++ n ∷ []) narrows new
   sweep-step new narrows legal leads none = record {
     steps = all;
     legal = legal-append window start.versions h.steps (from left ∷ []) h.legal (legal, tt);
@@ -223,19 +232,15 @@ module _ (start board : BoardOf) (n u p : ℕ) (o : origin_of (plant_of start.pl
       | inr d ↦ subst (λ x. ReadsNewest window start.versions x.inputs (origin_of window.plant x.stream))
           (only_there (from left) step d) last-newest
     ];
-    once = λ s. elim (cases_eq s n) [
-      | inl e ↦ omega (arith, counts-more s, h.below s (omega arith), ap (marks n) e, marks-itself n)
-      | inr ne ↦ omega (arith, counts-more s, h.once s, marks-other n s ne)
-    ];
-    below = λ s l. omega (arith, counts-more s, h.below s (omega arith), marks-other n s (λ e. omega arith));
-    covers = λ s l. elim (cases_eq s n) [
-      | inl e ↦ inl (subst (λ list. Contains list s) (sym streams-more)
-          (subst (Contains (streams h.steps ++ n ∷ [])) (sym e) (Contains-push (streams h.steps) n)))
-      | inr ne ↦ elim (h.covers s (omega arith)) [
-        | inl c ↦ inl (subst (λ list. Contains list s) (sym streams-more)
-            (Contains-append_left (streams h.steps) (n ∷ []) s c))
+    few = λ s. omega (arith, counts-more s, h.few s, turns-more turned n s);
+    covers = λ s c. elim (Contains-append_cases turned (n ∷ []) s c) [
+      | inl d ↦ elim (h.covers s d) [
+        | inl e ↦ inl (subst (λ list. Contains list s) (sym streams-more)
+            (Contains-append_left (streams h.steps) (n ∷ []) s e))
         | inr settled ↦ inr settled
       ]
+      | inr d ↦ inl (subst (λ list. Contains list s) (sym streams-more)
+          (subst (Contains (streams h.steps ++ n ∷ [])) (only_there n s d) (Contains-push (streams h.steps) n)))
     ];
     leads = leads;
     none = none;
@@ -257,7 +262,8 @@ module _ (start board : BoardOf) (n u p : ℕ) (o : origin_of (plant_of start.pl
 
   turn-given : (E : Type 0) (narrows : Bool) (new : BoardOf) →
       TurnsFrom {E = E} (Ok narrows) (after_steps start made) n (port u p) new →
-      (said : Bool) → (said ≡ false → (before ≡ false) × (narrows ≡ false)) → IsSweeping start (n + 1) said new
+      (said : Bool) → (said ≡ false → (before ≡ false) × (narrows ≡ false)) →
+      IsSweeping start (turned ++ n ∷ []) said new
   turn-given E true new t said k =
       let narrows = subst (λ state. is_idle window state (from state) ≡ false) same t.1 in
       sweep-step new said (subst (λ state. IsLegal window state (from state)) same t.0)
@@ -272,19 +278,20 @@ module _ (start board : BoardOf) (n u p : ℕ) (o : origin_of (plant_of start.pl
       (λ e. idle ∙ h.none (k e).0)
 
 -- and the turn of any goes on with the sweep
-pub sweep-turn : (E : Type 0) (start board new : BoardOf) (n : ℕ) (before narrows said : Bool) →
-    IsSweeping start n before board → Turns {E = E} (Ok narrows) board n new →
-    (said ≡ false → (before ≡ false) × (narrows ≡ false)) → IsSweeping start (n + 1) said new
-sweep-turn E start board new n before narrows said h turn k =
+pub sweep-turn : (E : Type 0) (start board new : BoardOf) (turned : List ℕ) (n : ℕ) (before narrows said : Bool) →
+    IsSweeping start turned before board → Turns {E = E} (Ok narrows) board n new →
+    (said ≡ false → (before ≡ false) × (narrows ≡ false)) → IsSweeping start (turned ++ n ∷ []) said new
+sweep-turn E start board new turned n before narrows said h turn k =
     let here = after_steps start (narrowing (window_of start.plan) start.versions h.steps) in
-    let turned = λ (from : Origin). TurnsFrom {E = E} (Ok narrows) here n from new in
-    let told : turned (origin_of (plant_of start.plan.parts) n)
+    let ends = λ (from : Origin). TurnsFrom {E = E} (Ok narrows) here n from new in
+    let told : ends (origin_of (plant_of start.plan.parts) n)
     = subst (λ b. Turns {E = E} (Ok narrows) b n new) h.leads turn in
     elim (source (origin_of (plant_of start.plan.parts) n)) [
       | from_feed f o ↦
-          (let fed : turned (feed f) = subst turned o told in
-          sweep-flag start (n + 1) before said new
-          (subst (IsSweeping start (n + 1) before) (h.leads ∙ sym fed.1) (sweep-fed start board n f before h o))
+          (let fed : ends (feed f) = subst ends o told in
+          sweep-flag start (turned ++ n ∷ []) before said new
+          (subst (IsSweeping start (turned ++ n ∷ []) before) (h.leads ∙ sym fed.1)
+          (sweep-fed start board turned n f before h o))
           (λ e. (k e).0))
-      | from_port u p o ↦ turn-given start board n u p o before h E narrows new (subst turned o told) said k
+      | from_port u p o ↦ turn-given start board turned n u p o before h E narrows new (subst ends o told) said k
     ]

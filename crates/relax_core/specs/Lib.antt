@@ -1,5 +1,6 @@
 pub mod Board
 pub mod Making
+pub mod Order
 pub mod Rooms
 pub mod Settled
 pub mod Settling

@@ -1,9 +1,9 @@
 -- Words of the proofs: a reader of the contracts needs none of them.
 -- Words of the contracts of the private functions that settle a board: the turn of a stream, and a sweep.
-use Rattle.std.specs.Prelude.{◌≡◌, ◌⊎◌, ◌<◌, ◌≤◌, ℕ, Bool, true, false, List, [], length, map, Contains, count_by, ◌==◌, Result, Ok, Err}
+use Rattle.std.specs.Prelude.{◌≡◌, ◌⊎◌, ◌≤◌, ℕ, Bool, true, false, List, [], map, take, Contains, count_by, ◌==◌}
+use Rattle.std.specs.Prelude.{Result, Ok, Err}
 use Rattle.flowsheet.specs.Plant.{Origin, feed, port, origin_of}
 use Rattle.plant.specs.PlantOf.{plant_of}
-use Rattle.plant_streams.specs.Streams.{streams_of}
 use Rattle.relaxation.specs.Core.{Step, IsLegal, is_idle, AreLegal, narrowing, last_step, IsSettled}
 use Rattle.relaxation.specs.Sweep.{ReadsNewest}
 use Rattle.renewal.specs.Plan.{window_of}
@@ -38,21 +38,20 @@ TurnsFrom (Err e) old s from new = new ≡ old
 abbrev pub Turns : {E : Type 0} → Result Bool E → BoardOf → ℕ → BoardOf → Type 0
 Turns result old s new = TurnsFrom result old s (origin_of (plant_of old.plan.parts) s) new
 
--- The streams below number n have had their turns in a sweep that began at a board.
-pub record IsSweeping (start : BoardOf) (n : ℕ) (narrows : Bool) (board : BoardOf) : Type 0 where
+-- These streams have had their turns in a sweep that began at a board.
+pub record IsSweeping (start : BoardOf) (turned : List ℕ) (narrows : Bool) (board : BoardOf) : Type 0 where
   -- a step for each of them that a unit gives, those that narrowed nothing too
   pub steps : List Step
   pub legal : AreLegal (window_of start.plan) start.versions steps
   pub newest : (step : Step) → Contains steps step →
       ReadsNewest (window_of start.plan) start.versions step.inputs (origin_of (plant_of start.plan.parts) step.stream)
-  pub once : (s : ℕ) → count_by (λ (step : Step). step.stream == s) steps ≤ 1
-  pub below : (s : ℕ) → n ≤ s → count_by (λ (step : Step). step.stream == s) steps ≡ 0
-  pub covers : (s : ℕ) → s < n → Contains (map (λ (step : Step). step.stream) steps) s
+  pub few : (s : ℕ) → count_by (λ (step : Step). step.stream == s) steps ≤ count_by (λ r. r == s) turned
+  pub covers : (s : ℕ) → Contains turned s → Contains (map (λ (step : Step). step.stream) steps) s
       ⊎ IsSettled (window_of start.plan) start.versions s (origin_of (plant_of start.plan.parts) s)
   pub leads : board ≡ after_steps start (narrowing (window_of start.plan) start.versions steps)
   pub none : narrows ≡ false → narrowing (window_of start.plan) start.versions steps ≡ []
 
--- A sweep tells whether a stream narrowed; where memory ran out some streams have had their turns.
-abbrev pub Sweeps : {E : Type 0} → Result Bool E → BoardOf → BoardOf → Type 0
-Sweeps (Ok narrows) old new = IsSweeping old (length (streams_of old.plan.parts)) narrows new
-Sweeps (Err e) old new = (n : ℕ) × IsSweeping old n true new
+-- A sweep over these streams tells whether one narrowed; where memory ran out the first of them have had their turns.
+abbrev pub Sweeps : {E : Type 0} → Result Bool E → BoardOf → List ℕ → BoardOf → Type 0
+Sweeps (Ok narrows) old order new = IsSweeping old order narrows new
+Sweeps (Err e) old order new = (n : ℕ) × IsSweeping old (take n order) true new

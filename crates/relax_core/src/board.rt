@@ -1,18 +1,21 @@
-ghost use Rattle.std.specs.Prelude.{◌≡◌, ◌<◌, length, IfOk};
+ghost use Rattle.std.specs.Prelude.{◌≡◌, ◌<◌, ◌≤◌, length, take, replicate, None, true, IfOk};
+ghost use Rattle.std.specs.Bool.{OnTrue};
 ghost use Rattle.plant_streams.specs.Streams.{streams_of};
 ghost use Rattle.plant.specs.PlantOf.{plant_of};
 ghost use Rattle.flowsheet.specs.Plant.{origin_of};
-ghost use Rattle.relaxation.specs.Core.{versions_of, last_of};
+ghost use Rattle.relaxation.specs.Core.{versions_of, last_of, IsLegal, is_idle};
 ghost use Rattle.relax_core.specs.Board.{IsBoard, opening_board};
-ghost use Rattle.relax_core.specs.Rooms.{HasRooms};
+ghost use Rattle.relax_core.specs.Order.{IsOrder};
+ghost use Rattle.relax_core.specs.Rooms.{AreNewRooms};
 ghost use Rattle.relax_core.specs.Settled.{window_on};
-ghost use Rattle.renewal.specs.Plan.{IsPlan};
+ghost use Rattle.renewal.specs.Plan.{window_of, IsPlan};
 ghost use Rattle.relax_core.specs.Stepping.{reads_for, IsOutputOf, Steps};
 
 use crate::givers::{giver, reads};
 use crate::lines::Lines;
 use crate::making::{append, first_missing};
-use crate::refs::Refs;
+use crate::order::{STREAMS, flow_order};
+use crate::refs::{Refs, remembers};
 use crate::room::Room;
 use crate::window::Window;
 use renewal::WindowPlan;
@@ -75,6 +78,10 @@ pub struct Board<'p> {
     rows: Vec<StepRow>,
     /// For each unit.
     rooms: Vec<Room>,
+    /// For each stream the numbers of the versions from which it was last renewed and met.
+    met: Vec<Option<Refs>>,
+    /// The streams in the order of the flow.
+    order: Vec<u32>,
 }
 
 impl<'p> Model for Board<'p> {
@@ -86,19 +93,31 @@ impl<'p> Model for Board<'p> {
     ghost view = { λ board. record { plan = board.plan.now; versions = board.lines; rows = board.rows.items } };
 
     ghost invariant = { λ board. IsKept
-        (record { plan = board.plan.now; versions = board.lines; rows = board.rows.items }) board.rooms.items };
+        (record { plan = board.plan.now; versions = board.lines; rows = board.rows.items }) board.rooms.items
+        board.met.items board.order.items };
 }
 
 /// Room for each unit of a plan.
 fn rooms_of(alloc: Global, plan: &WindowPlan<'_>) -> Result<Vec<Room>, AllocError>
     ensures plan { IsPlan plan.now }
-    ensures rooms { IfOk result (λ rooms. HasRooms plan.now rooms.items) }
+    ensures rooms { IfOk result (λ rooms. AreNewRooms plan.now rooms.items) }
 {
     let mut rooms = Vec::new(alloc);
     for unit in 0..plan.plant().units().len() {
         rooms.push(Room::new(alloc, plan, unit as u32)?)?;
     }
     Ok(rooms)
+}
+
+/// No numbers for each stream of a plan.
+fn none_met(alloc: Global, plan: &WindowPlan<'_>) -> Result<Vec<Option<Refs>>, AllocError>
+    ensures { IfOk result (λ met. met.items ≡ replicate (length (streams_of plan.now.parts)) None) }
+{
+    let mut met = Vec::new(alloc);
+    for _ in plan.plant().streams() {
+        met.push(None)?;
+    }
+    Ok(met)
 }
 
 impl<'p> Board<'p> {
@@ -108,11 +127,15 @@ impl<'p> Board<'p> {
     {
         let lines = Lines::open(alloc, plan)?;
         let rooms = rooms_of(alloc, plan)?;
+        let met = none_met(alloc, plan)?;
+        let order = flow_order(alloc, plan)?;
         Ok(Board {
             plan,
             lines,
             rows: Vec::new(alloc),
             rooms,
+            met,
+            order,
         })
     }
 
@@ -156,8 +179,30 @@ impl<'p> Board<'p> {
         })
     }
 
+    /// Writes the streams in the order of the flow to the front of `order`, and tells how many they are.
+    pub(crate) fn write_order(&self, order: &mut [u32; STREAMS]) -> usize
+        ensures count { result ≤ 1024 }
+        ensures order { IsOrder self.now.plan (take result order.new) }
+    {
+        let streams = self.order.as_slice();
+        order[..streams.len()].copy_from_slice(streams);
+        streams.len()
+    }
+
+    /// Whether a stream was last renewed and met from the versions with these numbers. Its step from them narrows
+    /// nothing.
+    fn is_met(&self, stream: u32, versions: &[u32]) -> bool
+        requires { stream < length (streams_of self.now.plan.parts) }
+        ensures { OnTrue result
+            (IsLegal (window_of self.now.plan) self.now.versions (record { stream = stream; inputs = versions.now })
+            × (is_idle (window_of self.now.plan) self.now.versions (record { stream = stream; inputs = versions.now })
+            ≡ true)) }
+    {
+        remembers(&self.met[stream as usize], versions)
+    }
+
     /// Renews a stream from the versions with these numbers of what its unit reads, and appends the meet with its last
-    /// version where that is narrower.
+    /// version where that is narrower. Where it was last renewed from the same numbers nothing is left to do.
     pub fn step(
         &mut self,
         alloc: Global,
@@ -169,19 +214,24 @@ impl<'p> Board<'p> {
         requires counted { length versions.now ≡ length (reads_for self.old.plan stream) }
         ensures { Steps result self.old (record { stream = stream; inputs = versions.now }) self.new }
     {
+        if self.is_met(stream, versions) {
+            return Ok(Stepped::Same);
+        }
         let (unit, port) = giver(self.plan, stream);
         if let Some(fault) = first_missing(&self.lines, reads(self.plan, unit), versions) {
             return Err(fault);
         }
         let room = &mut self.rooms[unit as usize];
         room.renew(self.plan, unit, &self.lines, versions);
-        append(
+        let stepped = append(
             alloc,
             &mut self.lines,
             &mut self.rows,
             stream,
             room.outputs.port(port),
             versions,
-        )
+        )?;
+        self.met[stream as usize] = Some(Refs::of(versions));
+        Ok(stepped)
     }
 }

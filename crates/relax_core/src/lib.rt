@@ -7,6 +7,7 @@ mod givers;
 mod laws;
 mod lines;
 mod making;
+mod order;
 mod refs;
 mod room;
 mod settle;

@@ -1,3 +1,6 @@
+ghost use Rattle.std.specs.Prelude.{◌≡◌, Some};
+ghost use Rattle.std.specs.Bool.{OnTrue};
+
 use std::marker::Model;
 
 /// The numbers of the versions that a step read, at most 8 of them, in the order of the input ports.
@@ -45,5 +48,15 @@ impl Refs {
         ensures { result ≡ self.now }
     {
         Refs::of(self.as_slice())
+    }
+}
+
+/// Whether these are the numbers that are remembered, where any are.
+pub(crate) fn remembers(memory: &Option<Refs>, numbers: &[u32]) -> bool
+    ensures { OnTrue result (memory.now ≡ Some numbers.now) }
+{
+    match memory {
+        Some(refs) => refs.as_slice() == numbers,
+        None => false,
     }
 }

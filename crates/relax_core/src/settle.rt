@@ -9,11 +9,13 @@ ghost use Rattle.relaxation.specs.Core.{versions_of, last_numbers, last_step, Is
 ghost use Rattle.renewal.specs.Plan.{window_of};
 ghost use Rattle.renewal.specs.Room.{planned};
 ghost use Rattle.relax_core.specs.Board.{IsBoard};
+ghost use Rattle.relax_core.specs.Order.{IsOrder};
 ghost use Rattle.relax_core.specs.Settling.{GoesOn};
 ghost use Rattle.relax_core.specs.Turns.{IsGivenBy, StepsThere, Turns, Sweeps};
 
 use crate::board::{Board, StepFault, Stepped};
 use crate::givers::reads;
+use crate::order::STREAMS;
 use plant::StreamSource;
 use renewal::WindowPlan;
 use std::alloc::{AllocError, Global};
@@ -95,20 +97,21 @@ impl<'p> Board<'p> {
         }
     }
 
-    /// Gives each stream its turn, and tells whether one narrowed.
-    fn sweep(&mut self, alloc: Global) -> Result<bool, AllocError>
-        ensures { Sweeps result self.old self.new }
+    /// Gives these streams their turns, and tells whether one narrowed.
+    fn sweep(&mut self, alloc: Global, order: &[u32]) -> Result<bool, AllocError>
+        requires { IsOrder self.old.plan order.now }
+        ensures { Sweeps result self.old order.now self.new }
     {
         let mut narrowed = false;
-        for stream in 0..self.plan().plant().streams().len() as u32 {
-            if self.turn(alloc, stream)? {
+        for stream in order {
+            if self.turn(alloc, *stream)? {
                 narrowed = true;
             }
         }
         Ok(narrowed)
     }
 
-    /// Renews every unit in sweeps from the last versions, until a sweep narrows nothing.
+    /// Renews every unit in sweeps along the flow from the last versions, until a sweep narrows nothing.
     pub fn settle(&mut self, alloc: Global) -> Result<(), AllocError>
         ensures quiet { OnOk result (IsQuiet (window_of self.new.plan) self.new.versions) }
         ensures longer { GoesOn self.old self.new }
@@ -116,8 +119,11 @@ impl<'p> Board<'p> {
             length (versions_of self.new.versions s) ≤ length (versions_of self.old.versions s)
             + self.old.plan.ticks * ((plant_of self.old.plan.parts).top + 1) }
     {
+        let mut room = [0; STREAMS];
+        let count = self.write_order(&mut room);
+        let order = &room[..count];
         for _ in 0..self.places() {
-            if !self.sweep(alloc)? {
+            if !self.sweep(alloc, order)? {
                 return Ok(());
             }
         }

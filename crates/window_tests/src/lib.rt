@@ -6,4 +6,6 @@ mod boards;
 #[cfg(test)]
 mod renewals;
 #[cfg(test)]
+mod trains;
+#[cfg(test)]
 mod windows;

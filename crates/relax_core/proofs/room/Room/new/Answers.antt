@@ -1,4 +1,4 @@
-use Rattle.std.proofs.Common.{List, sym, subst}
+use Rattle.std.proofs.Common.{List, refl, sym, subst}
 use Rattle.relaxation.specs.Tube.{Tube}
 use Rattle.renewal.specs.Room.{planned, AreOpened}
 use Rattle.renewal.proofs.Openings.{opening-opened}
@@ -9,6 +9,10 @@ returns c =
     let plan = c.args.plan.now in
     let reads = (planned plan c.args.unit).reads in
     record {
-      inputs = subst (λ (tubes : List Tube). AreOpened plan reads tubes) (sym c.in_ok-inputs.ensures) (opening-opened plan reads);
-      outputs = c.in_ok-outputs.ensures;
+      fits = record {
+        inputs = subst (λ (tubes : List Tube). AreOpened plan reads tubes) (sym c.in_ok-inputs.ensures)
+            (opening-opened plan reads);
+        outputs = c.in_ok-outputs.ensures;
+      };
+      none = refl;
     }

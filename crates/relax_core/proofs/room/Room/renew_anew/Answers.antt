@@ -7,7 +7,7 @@ use Rattle.tubes.specs.Shape.{HasShapeOf}
 use Rattle.renewal.specs.Room.{planned, HasRoomFor, renewal_of}
 use Rattle.relax_core.proofs.Readings.{IsReading, there-counted, there-at, stream-there, opened-counted, reading-none, reading-shape, reading-more, reading-whole}
 use Rattle.relax_core.proofs.Renewals.{renewed-room}
-use Rattle.relax_core.proofs.room.Room.renew.Goals as goal
+use Rattle.relax_core.proofs.room.Room.renew_anew.Goals as goal
 
 pub bounds-versions-port : goal.bounds-versions-port
 bounds-versions-port c =
