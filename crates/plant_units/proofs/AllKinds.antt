@@ -1,6 +1,6 @@
 -- What all kinds of units have in common, seen one kind after another.
 use Rattle.std.proofs.Common.{◌≡◌, ℕ, ◌-◌, pos, List, subst, ◌+◌, refl, zero, suc, [], arith, ◌∷◌, sym, ◌*◌, length}
-use Rattle.std.proofs.Common.{◌≤◌, map, ap, ◌∙◌, ◌<◌, true, false}
+use Rattle.std.proofs.Common.{◌≤◌, map, ap, ◌∙◌, ◌<◌, false}
 use Rattle.std.specs.Prelude.{slice_index_or, if◌then◌else◌}
 use Rattle.std.proofs.lemmas.List.{length-map, length-append}
 use Rattle.std.proofs.lemmas.List.FromFn.{length-range_with_len}

@@ -128,7 +128,7 @@ fn rate_table(alloc: Global, points: &[(i64, i64)]) -> Result<RateTable, AllocEr
 }
 
 /// What each unit has: its name, the numbers of its streams, and the bands of its states at the first tick.
-#[derive(Debug, Drop)]
+#[derive(Drop)]
 struct Ends {
     name: Text,
     inputs: StreamNumbers,

@@ -1,112 +1,19 @@
 use basic_units::{Mixer, Reactor, Splitter, Tank};
 use column_section::Column;
 use controllers::Controller;
+use listed::Listed;
 use plant_names::Text;
 use quant::Band;
-use std::alloc::{AllocError, Global};
-use std::marker::Model;
 
 /// The numbers of streams.
-#[derive(Debug, Drop)]
-pub struct StreamNumbers {
-    items: Vec<u32>,
-}
-
-impl Model for StreamNumbers {
-    ghost use Rattle.std.specs.Prelude.{List, ℕ};
-
-    ghost Value = { List ℕ };
-
-    ghost view = { λ l. l.items.items };
-}
-
-impl StreamNumbers {
-    ghost use Rattle.std.specs.Prelude.{◌≡◌};
-
-    pub fn new(items: Vec<u32>) -> Self
-        ensures { result ≡ items.items }
-    {
-        StreamNumbers { items }
-    }
-
-    pub fn as_slice(&self) -> &[u32]
-        ensures { result.now ≡ self.now }
-    {
-        self.items.as_slice()
-    }
-
-    /// Gives the vector back.
-    pub fn into_vec(self) -> Vec<u32>
-        ensures { result.items ≡ self }
-    {
-        self.items
-    }
-}
+pub type StreamNumbers = Listed<u32>;
 
 /// Bands, one for each state of a unit or each channel of a stream.
-#[derive(Debug, Drop)]
-pub struct Bands {
-    items: Vec<Band>,
-}
-
-impl Model for Bands {
-    ghost use Rattle.std.specs.Prelude.{List};
-    ghost use Rattle.quant.specs.Interval.{Interval};
-
-    ghost Value = { List Interval };
-
-    ghost view = { λ l. l.items.items };
-}
-
-impl Bands {
-    ghost use Rattle.std.specs.Prelude.{◌≡◌, ◌<◌, length, slice_set, IfOk};
-
-    pub fn new(items: Vec<Band>) -> Self
-        ensures { result ≡ items.items }
-    {
-        Bands { items }
-    }
-
-    /// A copy of these bands.
-    pub fn from_slice(alloc: Global, bands: &[Band]) -> Result<Self, AllocError>
-        ensures { IfOk result (λ made. made ≡ bands.now) }
-    {
-        Ok(Bands::new(Vec::from_slice(alloc, bands)?))
-    }
-
-    pub fn as_slice(&self) -> &[Band]
-        ensures { result.now ≡ self.now }
-    {
-        self.items.as_slice()
-    }
-
-    /// Gives the vector back.
-    pub fn into_vec(self) -> Vec<Band>
-        ensures { result.items ≡ self }
-    {
-        self.items
-    }
-
-    /// Puts another band in one place.
-    pub fn set(&mut self, place: usize, band: Band)
-        requires { place < length self.old }
-        ensures { self.new ≡ slice_set self.old place band }
-    {
-        self.items[place] = band;
-    }
-
-    /// Puts as many other bands in the place of these.
-    pub fn write(&mut self, bands: &[Band])
-        requires { length bands.now ≡ length self.old }
-        ensures { self.new ≡ bands.now }
-    {
-        self.items.copy_from_slice(bands);
-    }
-}
+pub type Bands = Listed<Band>;
 
 /// A unit: its parameters, the numbers of the streams that it reads and gives in the order of its ports, and the band of
 /// each of its states at the first tick.
-#[derive(Debug, Drop)]
+#[derive(Drop)]
 pub enum Unit {
     Tank {
         name: Text,
