@@ -1,9 +1,9 @@
 -- The ranges of single values: numbers, bands, names.
-use Rattle.std.proofs.Common.{◌≡◌, ℕ, ℤ, ◌≤◌, true, Option, Some, None, arith}
+use Rattle.std.proofs.Common.{◌≡◌, ℕ, ℤ, true, Option, Some, None, arith}
 use Rattle.std.specs.Prelude.{◌&&◌, int_le, nat_abs}
 use Rattle.std.proofs.lemmas.Int.{ints}
 use Rattle.quant.specs.Interval.{Interval, Holds, wide}
-use Rattle.parts.specs.InRange.{from_to, IsWide, IsName, IsReference}
+use Rattle.parts.specs.InRange.{from_to, IsBetween, IsWide, IsName, IsReference}
 use Rattle.toml.specs.Data.{as_integer, as_array}
 use Rattle.flow_file.specs.declared.fault.TextFault.TheVariants as fault
 use Rattle.flow_file.specs.Read.{Reading}
@@ -21,10 +21,6 @@ unfolding number_in
 number range place node =
     after (anything (or_fault (as_integer node) (fault.WrongType place))) (λ found _.
     tested _ _ _ (holds range found))
-
--- the counts from lo to hi
-abbrev pub IsBetween : ℕ → ℕ → ℕ → Type 0
-IsBetween lo hi n = (lo ≤ n) × (n ≤ hi)
 
 pub is_between : (lo hi : ℕ) (number : ℤ) → Holds (from_to lo hi) number → IsBetween lo hi (nat_abs number)
 is_between lo hi number held = (omega (arith, ints), omega (arith, ints))

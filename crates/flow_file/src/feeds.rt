@@ -10,6 +10,7 @@ ghost use Rattle.flow_file.specs.Feeds.{material_of, signal_of, kind_of, signal_
 ghost use Rattle.flow_file.specs.Spots.{seen};
 
 use crate::arrays::ListOf;
+use crate::common_keys::{Channels, Required, channels_of};
 use crate::fault::Unread;
 use crate::reader::Reader;
 use crate::section::Section;
@@ -102,9 +103,10 @@ fn material_of(alloc: Global, section: &Section) -> Result<FeedKind, Unread>
     ensures exact { Gives result (material_of (seen section.now)) }
     ensures inside { IfOk result IsFeedKind }
 {
-    let flow = section.read(alloc, "flow", FeedBandReader)?;
-    let conc = section.read(alloc, "conc", FeedBandReader)?;
-    let temp = section.read(alloc, "temp", FeedBandReader)?;
+    let bands = Required {
+        value: FeedBandReader,
+    };
+    let Channels { flow, conc, temp } = channels_of(alloc, section, bands)?;
     section.no_others(alloc, &["name", "kind", "flow", "conc", "temp"])?;
     Ok(FeedKind::Material { flow, conc, temp })
 }

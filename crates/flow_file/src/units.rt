@@ -3,9 +3,10 @@
 ghost use Rattle.std.specs.Prelude.{◌≡◌, ◌∷◌, codes, IfOk};
 ghost use Rattle.parts.specs.InRange.{IsKindPart, AreOwnLimits, IsUnitPart};
 ghost use Rattle.flow_file.specs.Read.{Gives};
-ghost use Rattle.flow_file.specs.Units.{kind_named, unit_kind_of, keys_of, part_of, own_limits_of, last_limits_of, unit_of};
+ghost use Rattle.flow_file.specs.Units.{kind_named, unit_kind_of, keys_of, part_of, last_limits_of, unit_of};
 ghost use Rattle.flow_file.specs.Spots.{seen, texts};
 
+use crate::common_keys::{Optional, QuantitiesOf};
 use crate::fault::Unread;
 use crate::kinds::{column_of, controller_of, mixer_of, reactor_of, splitter_of, tank_of};
 use crate::reader::Reader;
@@ -130,33 +131,11 @@ fn unit_keys(kind: UnitKind) -> &'static [&'static str]
 }
 
 /// The limits that are a unit's own.
-#[derive(Clone, Copy)]
-struct OwnLimitsReader;
-
-impl KeysReader for OwnLimitsReader {
-    type Item = OwnLimits;
-
-    ghost reads = { λ _. own_limits_of };
-
-    ghost may_be = { λ _. AreOwnLimits };
-
-    #[tactic(auto, unfolding(crate::specs::Units::own_limits_of))]
-    fn read_keys(self, alloc: Global, section: &Section) -> Result<OwnLimits, Unread> {
-        let flow = section.read_optional(alloc, "flow", WideBand)?;
-        let conc = section.read_optional(alloc, "conc", WideBand)?;
-        let temp = section.read_optional(alloc, "temp", WideBand)?;
-        let volume = section.read_optional(alloc, "volume", WideBand)?;
-        let signal = section.read_optional(alloc, "signal", WideBand)?;
-        section.no_others(alloc, &["flow", "conc", "temp", "volume", "signal"])?;
-        Ok(OwnLimits {
-            flow,
-            conc,
-            temp,
-            volume,
-            signal,
-        })
-    }
-}
+const OWN_LIMITS: TableOf<QuantitiesOf<Optional<WideBand>>> = TableOf {
+    keys: QuantitiesOf {
+        each: Optional { value: WideBand },
+    },
+};
 
 /// The limits of a unit that has none of its own.
 const NO_LIMITS: OwnLimits = OwnLimits {
@@ -173,13 +152,7 @@ fn last_limits_of(alloc: Global, kind: UnitKind, section: &Section) -> Result<Ow
     ensures exact { Gives result (last_limits_of kind (seen section.now)) }
     ensures inside { IfOk result AreOwnLimits }
 {
-    let limits = section.read_optional(
-        alloc,
-        "limits",
-        TableOf {
-            keys: OwnLimitsReader,
-        },
-    )?;
+    let limits = section.read_optional(alloc, "limits", OWN_LIMITS)?;
     section.no_others(alloc, unit_keys(kind))?;
     Ok(limits.unwrap_or(NO_LIMITS))
 }

@@ -2,7 +2,7 @@
 
 ghost use Rattle.std.specs.Prelude.{◌≡◌, ◌≤◌, IfOk, option_and_then};
 ghost use Rattle.quant.specs.Interval.{Holds};
-ghost use Rattle.parts.specs.InRange.{IsWide, IsName, IsReference};
+ghost use Rattle.parts.specs.InRange.{IsBetween, IsWide, IsName, IsReference};
 ghost use Rattle.toml.specs.Data.{as_array};
 ghost use Rattle.toml.specs.View.{view};
 ghost use Rattle.flow_file.specs.Read.{Gives, GivesBy};
@@ -68,7 +68,7 @@ impl Reader for CountIn {
 
     ghost reads = { λ range. count_in range.least range.most };
 
-    ghost may_be = { λ range count. (range.least ≤ count) × (count ≤ range.most) };
+    ghost may_be = { λ range. IsBetween range.least range.most };
 
     #[tactic(auto, unfolding(crate::specs::Value::count_in))]
     fn read(self, alloc: Global, spot: Spot, node: &Value) -> Result<u32, Unread> {

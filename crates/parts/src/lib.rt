@@ -12,4 +12,4 @@ pub use laws::one_piece_is_in_force;
 pub use listed::Listed;
 pub use lists::{FeedParts, Pieces, RatePoints, Texts, UnitParts};
 pub use parts::{Parts, Widths};
-pub use units::{KindPart, OwnLimits, UnitPart};
+pub use units::{KindPart, OwnLimits, Quantities, UnitPart};
