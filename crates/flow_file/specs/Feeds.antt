@@ -13,7 +13,7 @@ use Rattle.flow_file.specs.declared.fault.TextFault.TheVariants as fault
 use Rattle.flow_file.specs.Read.{Reading, ◌>>=◌}
 use Rattle.flow_file.specs.Value.{Bytes, or_fault, when, Section}
 use Rattle.flow_file.specs.CommonKeys.{channels_of}
-use Rattle.flow_file.specs.Value.{at_key, no_others, is_in, triple_of, band_between, band_of, text_of, name_of, list_of}
+use Rattle.flow_file.specs.Value.{at_key, no_others, is_in, triple_of, band_between, band_of, word_of, name_of, list_of}
 
 -- a piece: its tick, and the ends of its band
 unfoldable pub piece_of : Bytes → Data → Reading Piece
@@ -69,10 +69,8 @@ signal_named text =
     else if bytes_eq text (codes "signal") then Some true
     else None
 
-unfoldable pub is_signal_of : Bytes → Data → Reading Bool
-is_signal_of place node = do
-  text ← text_of place node
-  or_fault (signal_named text) (fault.OutOfRange place)
+abbrev pub is_signal_of : Bytes → Data → Reading Bool
+is_signal_of = word_of signal_named
 
 -- a feed: its name, its kind, and the keys of its kind
 unfoldable pub feed_of : Section → Reading FeedPart

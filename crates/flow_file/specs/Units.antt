@@ -20,7 +20,7 @@ use Rattle.flow_file.specs.declared.kinds.Settings.{Settings}
 use Rattle.flow_file.specs.Read.{Reading, ◌>>=◌}
 use Rattle.flow_file.specs.Value.{Bytes, or_fault, when, Section, table_of, at_key, at_optional, no_others}
 use Rattle.flow_file.specs.CommonKeys.{both_at, channels_of, quantities_of}
-use Rattle.flow_file.specs.Value.{is_in, number_in, count_in, band_of, pair_of, text_of, name_of, reference_of, list_of}
+use Rattle.flow_file.specs.Value.{is_in, number_in, count_in, band_of, pair_of, word_of, name_of, reference_of, list_of}
 
 -- a part of a whole, and a gain
 abbrev pub ppm_in : Bytes → Data → Reading ℤ
@@ -139,10 +139,8 @@ kind_named text =
     else if bytes_eq text (codes "splitter") then Some kind.Splitter
     else None
 
-unfoldable pub unit_kind_of : Bytes → Data → Reading UnitKind
-unit_kind_of place node = do
-  text ← text_of place node
-  or_fault (kind_named text) (fault.OutOfRange place)
+abbrev pub unit_kind_of : Bytes → Data → Reading UnitKind
+unit_kind_of = word_of kind_named
 
 -- the keys of each kind
 unfoldable pub keys_of : UnitKind → List Bytes

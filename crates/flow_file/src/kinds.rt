@@ -16,7 +16,9 @@ use crate::fault::Unread;
 use crate::reader::Reader;
 use crate::section::Section;
 use crate::spot::{Refusal, Spot};
-use crate::values::{CountIn, NumberIn, Reference, WIDEST, WideBand, pair_of};
+use crate::values::{
+    CountIn, NumberIn, REFERENCE, ReferenceForm, TextOf, WIDEST, WideBand, pair_of,
+};
 use parts::{KindPart, RatePoints};
 use quant::{Band, MILLION};
 use std::alloc::Global;
@@ -128,8 +130,8 @@ const RATE_POINTS: ListOf<RatePointReader> = ListOf {
 };
 
 /// What a mixer reads.
-const INPUTS: ListOf<Reference> = ListOf {
-    each: Reference,
+const INPUTS: ListOf<TextOf<ReferenceForm>> = ListOf {
+    each: REFERENCE,
     least: 2,
     most: 8,
 };
@@ -155,7 +157,7 @@ pub(crate) fn tank_of(alloc: Global, section: &Section) -> Result<KindPart, Unre
     ensures exact { Gives result (tank_of (seen section.now)) }
     ensures inside { IfOk result IsKindPart }
 {
-    let (input, valve) = both_at(alloc, section, "in", "valve", Reference)?;
+    let (input, valve) = both_at(alloc, section, "in", "valve", REFERENCE)?;
     let k = section.read(alloc, "k", PPM)?;
     let held = contents_of(alloc, section)?;
     Ok(KindPart::Tank {
@@ -194,8 +196,8 @@ pub(crate) fn reactor_of(alloc: Global, section: &Section) -> Result<KindPart, U
     ensures exact { Gives result (reactor_of (seen section.now)) }
     ensures inside { IfOk result IsKindPart }
 {
-    let (input, valve) = both_at(alloc, section, "in", "valve", Reference)?;
-    let jacket = section.read(alloc, "jacket", Reference)?;
+    let (input, valve) = both_at(alloc, section, "in", "valve", REFERENCE)?;
+    let jacket = section.read(alloc, "jacket", REFERENCE)?;
     let its = reaction_of(alloc, section)?;
     Ok(KindPart::Reactor {
         input,
@@ -264,7 +266,7 @@ pub(crate) fn column_of(alloc: Global, section: &Section) -> Result<KindPart, Un
     ensures exact { Gives result (column_of (seen section.now)) }
     ensures inside { IfOk result IsKindPart }
 {
-    let (liquid, vapour) = both_at(alloc, section, "liquid", "vapour", Reference)?;
+    let (liquid, vapour) = both_at(alloc, section, "liquid", "vapour", REFERENCE)?;
     let its = stages_of(alloc, section)?;
     let held = opening_of(alloc, section)?;
     Ok(KindPart::Column {
@@ -306,7 +308,7 @@ pub(crate) fn controller_of(alloc: Global, section: &Section) -> Result<KindPart
     ensures exact { Gives result (controller_of (seen section.now)) }
     ensures inside { IfOk result IsKindPart }
 {
-    let (set, measured) = both_at(alloc, section, "set", "measured", Reference)?;
+    let (set, measured) = both_at(alloc, section, "set", "measured", REFERENCE)?;
     let its = settings_of(alloc, section)?;
     Ok(KindPart::Controller {
         set,
@@ -334,7 +336,7 @@ pub(crate) fn splitter_of(alloc: Global, section: &Section) -> Result<KindPart, 
     ensures exact { Gives result (splitter_of (seen section.now)) }
     ensures inside { IfOk result IsKindPart }
 {
-    let input = section.read(alloc, "in", Reference)?;
+    let input = section.read(alloc, "in", REFERENCE)?;
     let share = section.read(alloc, "share", PPM)?;
     Ok(KindPart::Splitter { input, share })
 }
