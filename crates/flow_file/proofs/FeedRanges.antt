@@ -12,6 +12,7 @@ use Rattle.flow_file.specs.Feeds.{material_of, signal_of, is_signal_of, feed_of}
 use Rattle.flow_file.proofs.Yields.{Yields, Reads, given, anything, after, tested, table, required}
 use Rattle.flow_file.proofs.ValueRanges.{holds, is_between, between, band, name}
 use Rattle.flow_file.proofs.ListRanges.{list}
+use Rattle.flow_file.proofs.KeyRanges.{channels}
 
 is_tick : (tick : ℤ) → is_in (from_to 0 last_piece) tick ≡ true → nat_abs tick ≤ last_piece
 is_tick tick passed = (is_between 0 last_piece tick (holds (from_to 0 last_piece) tick passed)).1
@@ -47,11 +48,9 @@ feed_band place node = either (begins_with_array (as_array node)) (pieces place 
 material : (section : Section) → Yields IsFeedKind (material_of section)
 unfolding material_of
 material section =
-    after (required feed_band section _) (λ flow flow_is.
-    after (required feed_band section _) (λ conc conc_is.
-    after (required feed_band section _) (λ temp temp_is.
+    after (channels (required feed_band) section) (λ bands bands_are.
     after (anything (no_others _ section)) (λ _ _.
-    given (flow_is, conc_is, temp_is)))))
+    given bands_are))
 
 signal : (section : Section) → Yields IsFeedKind (signal_of section)
 unfolding signal_of

@@ -2,14 +2,15 @@
 use Rattle.std.proofs.Common.{◌≡◌, ℤ, true, arith}
 use Rattle.std.proofs.lemmas.Int.{ints}
 use Rattle.quant.specs.Interval.{Holds, wide}
-use Rattle.parts.specs.InRange.{ppm, gains, holdups, slopes, most_rate_points, most_stages, fewest_inputs, most_inputs}
-use Rattle.parts.specs.InRange.{IsWide, IsRatePoint, AreContents, AreColumnBands, IsKindPart}
+use Rattle.quant.specs.Operation.{ppm, gains, holdups, slopes}
+use Rattle.parts.specs.InRange.{most_rate_points, most_stages, fewest_inputs, most_inputs}
+use Rattle.parts.specs.InRange.{IsRatePoint, AreContents, AreColumnBands, IsKindPart}
 use Rattle.toml.specs.Data.{as_array}
 use Rattle.flow_file.specs.declared.fault.TextFault.TheVariants as fault
 use Rattle.flow_file.specs.declared.units.UnitKind.{UnitKind}
 use Rattle.flow_file.specs.declared.units.UnitKind.TheVariants as kind
-use Rattle.flow_file.specs.Value.{Bytes, or_fault, pair_of, Section}
-use Rattle.flow_file.specs.Units.{ppm_in, gain_in, is_rate_point, rate_point_of, contents_of, flow_and_temp_of}
+use Rattle.flow_file.specs.Value.{or_fault, pair_of, Section}
+use Rattle.flow_file.specs.Units.{ppm_in, gain_in, is_rate_point, rate_point_of, contents_of}
 use Rattle.flow_file.specs.Units.{opening_of}
 use Rattle.flow_file.specs.Units.{tank_of, reaction_of, reactor_of, stages_of, column_of, settings_of, controller_of}
 use Rattle.flow_file.specs.Units.{mixer_of, splitter_of, part_of}
@@ -17,6 +18,7 @@ use Rattle.flow_file.specs.Within.{IsReaction, AreStages, AreSettings}
 use Rattle.flow_file.proofs.Yields.{Yields, Reads, given, anything, after, tested, required}
 use Rattle.flow_file.proofs.ValueRanges.{number, count, band, reference}
 use Rattle.flow_file.proofs.ListRanges.{list}
+use Rattle.flow_file.proofs.KeyRanges.{both, channels}
 
 ratio : Reads (Holds ppm) ppm_in
 ratio = number ppm
@@ -43,19 +45,16 @@ contents : (section : Section) →
 unfolding contents_of
 contents section =
     after (required band section _) (λ volume volume_is.
-    after (required band section _) (λ flow flow_is.
-    after (required band section _) (λ conc conc_is.
-    after (required band section _) (λ temp temp_is.
-    given (volume_is, flow_is, conc_is, temp_is)))))
+    after (channels (required band) section) (λ stream stream_is.
+    given (volume_is, stream_is.0, stream_is.1, stream_is.2)))
 
 tank : (section : Section) → Yields IsKindPart (tank_of section)
 unfolding tank_of
 tank section =
-    after (required reference section _) (λ input input_is.
-    after (required reference section _) (λ valve valve_is.
+    after (both reference section _ _) (λ reads reads_are.
     after (required ratio section _) (λ k k_is.
     after (contents section) (λ held held_are.
-    given (input_is, valve_is, k_is, held_are)))))
+    given (reads_are.0, reads_are.1, k_is, held_are))))
 
 reaction : (section : Section) → Yields IsReaction (reaction_of section)
 unfolding reaction_of
@@ -70,29 +69,20 @@ reaction section =
 reactor : (section : Section) → Yields IsKindPart (reactor_of section)
 unfolding reactor_of
 reactor section =
-    after (required reference section _) (λ input input_is.
-    after (required reference section _) (λ valve valve_is.
+    after (both reference section _ _) (λ reads reads_are.
     after (required reference section _) (λ jacket jacket_is.
     after (reaction section) (λ its are.
-    given (input_is, valve_is, jacket_is, are.k, are.rate, are.heat, are.ua, are.held)))))
+    given (reads_are.0, reads_are.1, jacket_is, are.k, are.rate, are.heat, are.ua, are.held))))
 
 -- what a column starts from
-flow_and_temp : (section : Section) (flow_key temp_key : Bytes) →
-    Yields (λ bands. IsWide bands.0 × IsWide bands.1) (flow_and_temp_of section flow_key temp_key)
-unfolding flow_and_temp_of
-flow_and_temp section flow_key temp_key =
-    after (required band section flow_key) (λ flow flow_is.
-    after (required band section temp_key) (λ temp temp_is.
-    given (flow_is, temp_is)))
-
 opening : (section : Section) →
     Yields (λ held. AreColumnBands held.x held.liquid_flow held.liquid_temp held.vapour_flow held.vapour_temp)
     (opening_of section)
 unfolding opening_of
 opening section =
     after (required band section _) (λ x x_is.
-    after (flow_and_temp section _ _) (λ liquid liquid_are.
-    after (flow_and_temp section _ _) (λ vapour vapour_are.
+    after (both band section _ _) (λ liquid liquid_are.
+    after (both band section _ _) (λ vapour vapour_are.
     given (x_is, liquid_are.0, liquid_are.1, vapour_are.0, vapour_are.1))))
 
 stages : (section : Section) → Yields AreStages (stages_of section)
@@ -106,37 +96,33 @@ stages section =
 column : (section : Section) → Yields IsKindPart (column_of section)
 unfolding column_of
 column section =
-    after (required reference section _) (λ liquid liquid_is.
-    after (required reference section _) (λ vapour vapour_is.
+    after (both reference section _ _) (λ reads reads_are.
     after (stages section) (λ its are.
     after (opening section) (λ held held_are.
-    given (liquid_is, vapour_is, are.stages.0, are.stages.1, are.holdup, are.slope, held_are)))))
+    given (reads_are.0, reads_are.1, are.stages.0, are.stages.1, are.holdup, are.slope, held_are))))
 
 settings : (section : Section) → Yields AreSettings (settings_of section)
 unfolding settings_of
 settings section =
-    after (required gain section _) (λ kp kp_is.
-    after (required gain section _) (λ ki ki_is.
+    after (both gain section _ _) (λ gains gains_are.
     after (required (number wide) section _) (λ bias bias_is.
     after (required band section _) (λ limits limits_are.
-    after (required band section _) (λ integral integral_is.
-    after (required band section _) (λ out out_is.
+    after (both band section _ _) (λ starts starts_are.
     given (record {
-      kp = kp_is;
-      ki = ki_is;
+      kp = gains_are.0;
+      ki = gains_are.1;
       bias = bias_is;
       integral_limits = limits_are;
-      integral = integral_is;
-      out = out_is;
-    })))))))
+      integral = starts_are.0;
+      out = starts_are.1;
+    })))))
 
 controller : (section : Section) → Yields IsKindPart (controller_of section)
 unfolding controller_of
 controller section =
-    after (required reference section _) (λ set set_is.
-    after (required reference section _) (λ measured measured_is.
+    after (both reference section _ _) (λ reads reads_are.
     after (settings section) (λ its are.
-    given (set_is, measured_is, are.kp, are.ki, are.bias, are.integral_limits, are.integral, are.out))))
+    given (reads_are.0, reads_are.1, are.kp, are.ki, are.bias, are.integral_limits, are.integral, are.out)))
 
 mixer : (section : Section) → Yields IsKindPart (mixer_of section)
 unfolding mixer_of

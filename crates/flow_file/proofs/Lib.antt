@@ -6,6 +6,7 @@ pub mod Tree
 pub mod Yields
 pub mod ValueRanges
 pub mod ListRanges
+pub mod KeyRanges
 pub mod FeedRanges
 pub mod KindRanges
 pub mod PlantRanges

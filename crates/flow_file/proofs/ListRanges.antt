@@ -3,6 +3,7 @@ use Rattle.std.proofs.Common.{◌≡◌, ℕ, suc, ◌≤◌, true, List, length
 use Rattle.std.specs.Prelude.{nat_le}
 use Rattle.std.specs.List.{AllByRecursion}
 use Rattle.std.proofs.lemmas.Bool.Decides.{nat_tests}
+use Rattle.parts.specs.InRange.{AreBetween}
 use Rattle.toml.specs.Data.{Data, Items, no_items, item, as_array}
 use Rattle.flow_file.specs.declared.fault.TextFault.TheVariants as fault
 use Rattle.flow_file.specs.Read.{Reading}
@@ -31,10 +32,6 @@ each_of each place i (item node rest) =
     after (each (item_place place i) node) (λ x x_is.
     after (each_of each place (suc i) rest) (λ xs xs_are.
     given (ap suc xs_are.0, (x_is, xs_are.1))))
-
--- a list from least to most values that meet P
-abbrev pub AreBetween : {A : Type 0} → ℕ → ℕ → (A → Type 0) → List A → Type 0
-AreBetween least most P xs = (least ≤ length xs) × (length xs ≤ most) × AllByRecursion P xs
 
 are_between : {A : Type 0} (P : A → Type 0) (least most n : ℕ) (xs : List A) →
     (least ≤ n) × (n ≤ most) → (length xs ≡ n) × AllByRecursion P xs → AreBetween least most P xs

@@ -4,7 +4,7 @@ use Rattle.std.specs.Prelude.{[]}
 use Rattle.quant.specs.Interval.{Holds}
 use Rattle.parts.specs.Parts.{FileParts}
 use Rattle.parts.specs.InRange.{most_ticks, longest_window, most_units, widths, AreWidths, AreWideLimits, AreOwnLimits}
-use Rattle.parts.specs.InRange.{IsUnitPart, AreFeeds, AreInRange}
+use Rattle.parts.specs.InRange.{IsBetween, IsUnitPart, AreFeeds, AreInRange}
 use Rattle.flow_file.specs.declared.plant.Frame.{Frame}
 use Rattle.flow_file.specs.declared.units.UnitKind.{UnitKind}
 use Rattle.flow_file.specs.Value.{Section, at_key, no_others, tree_of}
@@ -12,22 +12,15 @@ use Rattle.flow_file.specs.Units.{unit_kind_of, own_limits_of, no_limits, last_l
 use Rattle.flow_file.specs.Plant.{format_of, run_of, limits_of, width_in, widths_of, no_widths}
 use Rattle.flow_file.specs.Plant.{widths_at, feeds_at, frame_of, parts_at, parts_of, parts_in}
 use Rattle.flow_file.proofs.Yields.{Yields, Reads, given, anything, after, table, required, optional, or_else}
-use Rattle.flow_file.proofs.ValueRanges.{IsBetween, number, count, band, name}
+use Rattle.flow_file.proofs.ValueRanges.{number, count, band, name}
 use Rattle.flow_file.proofs.ListRanges.{list}
+use Rattle.flow_file.proofs.KeyRanges.{channels, quantities}
 use Rattle.flow_file.proofs.FeedRanges.{feeds}
 use Rattle.flow_file.proofs.KindRanges.{part}
 
 -- a unit's own limits, and the unit
 own_limits : (section : Section) → Yields AreOwnLimits (own_limits_of section)
-unfolding own_limits_of
-own_limits section =
-    after (optional band section _) (λ flow flow_is.
-    after (optional band section _) (λ conc conc_is.
-    after (optional band section _) (λ temp temp_is.
-    after (optional band section _) (λ volume volume_is.
-    after (optional band section _) (λ signal signal_is.
-    after (anything (no_others _ section)) (λ _ _.
-    given (record { flow = flow_is; conc = conc_is; temp = temp_is; volume = volume_is; signal = signal_is })))))))
+own_limits = quantities (optional band)
 
 no_limits_are : AreOwnLimits no_limits
 no_limits_are = record { flow = tt; conc = tt; temp = tt; volume = tt; signal = tt }
@@ -58,16 +51,11 @@ run section =
     after (anything (no_others _ section)) (λ _ _.
     given (ticks_are, window_is))))
 
-limits : (section : Section) → Yields AreWideLimits (limits_of section)
+limits : (top : Section) → Yields AreWideLimits (limits_of top)
 unfolding limits_of
-limits section =
-    after (required band section _) (λ flow flow_is.
-    after (required band section _) (λ conc conc_is.
-    after (required band section _) (λ temp temp_is.
-    after (required band section _) (λ volume volume_is.
-    after (required band section _) (λ signal signal_is.
-    after (anything (no_others _ section)) (λ _ _.
-    given (record { flow = flow_is; conc = conc_is; temp = temp_is; volume = volume_is; signal = signal_is })))))))
+limits top =
+    after (required (table (quantities (required band))) top _) (λ limit are.
+    given (record { flow = are.flow; conc = are.conc; temp = are.temp; volume = are.volume; signal = are.signal }))
 
 width : Reads (Holds widths) width_in
 width = number widths
@@ -75,12 +63,10 @@ width = number widths
 asked_widths : (section : Section) → Yields AreWidths (widths_of section)
 unfolding widths_of
 asked_widths section =
-    after (optional width section _) (λ flow flow_is.
-    after (optional width section _) (λ conc conc_is.
-    after (optional width section _) (λ temp temp_is.
+    after (channels (optional width) section) (λ stream are.
     after (optional width section _) (λ signal signal_is.
     after (anything (no_others _ section)) (λ _ _.
-    given (record { flow = flow_is; conc = conc_is; temp = temp_is; signal = signal_is }))))))
+    given (record { flow = are.0; conc = are.1; temp = are.2; signal = signal_is }))))
 
 no_widths_are : AreWidths no_widths
 no_widths_are = record { flow = tt; conc = tt; temp = tt; signal = tt }
@@ -102,7 +88,7 @@ unfolding frame_of
 frame top =
     after (anything (at_key format_of top _)) (λ _ _.
     after (required (table run) top _) (λ run run_is.
-    after (required (table limits) top _) (λ limits limits_are.
+    after (limits top) (λ limits limits_are.
     after (all_widths top) (λ width width_are.
     given (record { ticks = run_is.0; window = run_is.1; limits = limits_are; width = width_are })))))
 

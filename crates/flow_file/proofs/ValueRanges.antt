@@ -1,15 +1,16 @@
 -- The ranges of single values: numbers, bands, names.
-use Rattle.std.proofs.Common.{◌≡◌, ℕ, ℤ, ◌≤◌, true, Option, Some, None, arith}
+use Rattle.std.proofs.Common.{◌≡◌, ℕ, ℤ, Bool, true, Option, Some, None, arith}
 use Rattle.std.specs.Prelude.{◌&&◌, int_le, nat_abs}
 use Rattle.std.proofs.lemmas.Int.{ints}
 use Rattle.quant.specs.Interval.{Interval, Holds, wide}
-use Rattle.parts.specs.InRange.{from_to, IsWide, IsName, IsReference}
+use Rattle.parts.specs.InRange.{from_to, IsBetween, IsWide, IsName, IsReference}
+use Rattle.plant_names.specs.Name.{is_name, is_reference}
 use Rattle.toml.specs.Data.{as_integer, as_array}
 use Rattle.flow_file.specs.declared.fault.TextFault.TheVariants as fault
 use Rattle.flow_file.specs.Read.{Reading}
 use Rattle.flow_file.specs.Value.{Bytes, or_fault, is_in, number_in, count_in, band_between}
 use Rattle.flow_file.specs.Value.{pair_of, number_band, pair_band, band_of}
-use Rattle.flow_file.specs.Value.{text_of, name_of, reference_of}
+use Rattle.flow_file.specs.Value.{text_of, formed_text, name_of, reference_of}
 use Rattle.flow_file.proofs.Yields.{Yields, Reads, given, anything, after, tested}
 
 pub holds : (range : Interval) (number : ℤ) → is_in range number ≡ true → Holds range number
@@ -21,10 +22,6 @@ unfolding number_in
 number range place node =
     after (anything (or_fault (as_integer node) (fault.WrongType place))) (λ found _.
     tested _ _ _ (holds range found))
-
--- the counts from lo to hi
-abbrev pub IsBetween : ℕ → ℕ → ℕ → Type 0
-IsBetween lo hi n = (lo ≤ n) × (n ≤ hi)
 
 pub is_between : (lo hi : ℕ) (number : ℤ) → Holds (from_to lo hi) number → IsBetween lo hi (nat_abs number)
 is_between lo hi number held = (omega (arith, ints), omega (arith, ints))
@@ -59,11 +56,13 @@ pub band : Reads IsWide band_of
 unfolding band_of
 band place node = number_or_pair place (as_integer node) _ (pair place node)
 
--- a name, and a reference
+-- a text of one form: a name, and a reference
+formed : (is : Bytes → Bool) → Reads (λ text. is text ≡ true) (formed_text is)
+unfolding formed_text
+formed is place node = after (anything (text_of place node)) (λ text _. tested _ _ _ (λ passed. passed))
+
 pub name : Reads IsName name_of
-unfolding name_of
-name place node = after (anything (text_of place node)) (λ text _. tested _ _ _ (λ passed. passed))
+name = formed is_name
 
 pub reference : Reads IsReference reference_of
-unfolding reference_of
-reference place node = after (anything (text_of place node)) (λ text _. tested _ _ _ (λ passed. passed))
+reference = formed is_reference

@@ -12,7 +12,8 @@ use Rattle.toml.specs.Data.{Data, Items, item, as_array}
 use Rattle.flow_file.specs.declared.fault.TextFault.TheVariants as fault
 use Rattle.flow_file.specs.Read.{Reading, ◌>>=◌}
 use Rattle.flow_file.specs.Value.{Bytes, or_fault, when, Section}
-use Rattle.flow_file.specs.Value.{at_key, no_others, is_in, triple_of, band_between, band_of, text_of, name_of, list_of}
+use Rattle.flow_file.specs.CommonKeys.{channels_of}
+use Rattle.flow_file.specs.Value.{at_key, no_others, is_in, triple_of, band_between, band_of, word_of, name_of, list_of}
 
 -- a piece: its tick, and the ends of its band
 unfoldable pub piece_of : Bytes → Data → Reading Piece
@@ -47,11 +48,9 @@ feed_band_of place node = if begins_with_array (as_array node) then pieces_of pl
 -- what a material feed brings
 unfoldable pub material_of : Section → Reading FeedKind
 material_of section = do
-  flow ← at_key feed_band_of section (codes "flow")
-  conc ← at_key feed_band_of section (codes "conc")
-  temp ← at_key feed_band_of section (codes "temp")
+  bands ← channels_of (at_key feed_band_of) section
   others ← no_others (codes "name" ∷ codes "kind" ∷ codes "flow" ∷ codes "conc" ∷ codes "temp" ∷ []) section
-  Ok (feed_kind.Material flow conc temp)
+  Ok (feed_kind.Material bands.flow bands.conc bands.temp)
 
 -- what a signal feed brings
 unfoldable pub signal_of : Section → Reading FeedKind
@@ -70,10 +69,8 @@ signal_named text =
     else if bytes_eq text (codes "signal") then Some true
     else None
 
-unfoldable pub is_signal_of : Bytes → Data → Reading Bool
-is_signal_of place node = do
-  text ← text_of place node
-  or_fault (signal_named text) (fault.OutOfRange place)
+abbrev pub is_signal_of : Bytes → Data → Reading Bool
+is_signal_of = word_of signal_named
 
 -- a feed: its name, its kind, and the keys of its kind
 unfoldable pub feed_of : Section → Reading FeedPart

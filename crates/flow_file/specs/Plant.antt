@@ -12,6 +12,7 @@ use Rattle.flow_file.specs.declared.plant.Frame.{Frame}
 use Rattle.flow_file.specs.Read.{Reading, ◌>>=◌}
 use Rattle.flow_file.specs.Value.{Bytes, or_fault, when, Section, table_of}
 use Rattle.flow_file.specs.Value.{at_key, at_optional, no_others, is_in, number_in, count_in, band_of, list_of, tree_of}
+use Rattle.flow_file.specs.CommonKeys.{channels_of, quantities_of}
 use Rattle.flow_file.specs.Feeds.{feed_of}
 use Rattle.flow_file.specs.Units.{unit_of}
 
@@ -29,15 +30,17 @@ run_of section = do
   others ← no_others (codes "ticks" ∷ codes "window" ∷ []) section
   Ok (ticks, window)
 
+-- the limits of the plant, by the quantities that they limit
 unfoldable pub limits_of : Section → Reading Limits
-limits_of section = do
-  flow ← at_key band_of section (codes "flow")
-  conc ← at_key band_of section (codes "conc")
-  temp ← at_key band_of section (codes "temp")
-  volume ← at_key band_of section (codes "volume")
-  signal ← at_key band_of section (codes "signal")
-  others ← no_others (codes "flow" ∷ codes "conc" ∷ codes "temp" ∷ codes "volume" ∷ codes "signal" ∷ []) section
-  Ok (record { flow = flow; conc = conc; temp = temp; volume = volume; signal = signal })
+limits_of top = do
+  limit ← at_key (table_of (quantities_of (at_key band_of))) top (codes "limits")
+  Ok (record {
+    flow = limit.flow;
+    conc = limit.conc;
+    temp = limit.temp;
+    volume = limit.volume;
+    signal = limit.signal;
+  })
 
 -- a width that may be asked for
 abbrev pub width_in : Bytes → Data → Reading ℤ
@@ -45,12 +48,10 @@ width_in = number_in widths
 
 unfoldable pub widths_of : Section → Reading Widths
 widths_of section = do
-  flow ← at_optional width_in section (codes "flow")
-  conc ← at_optional width_in section (codes "conc")
-  temp ← at_optional width_in section (codes "temp")
+  stream ← channels_of (at_optional width_in) section
   signal ← at_optional width_in section (codes "signal")
   others ← no_others (codes "flow" ∷ codes "conc" ∷ codes "temp" ∷ codes "signal" ∷ []) section
-  Ok (record { flow = flow; conc = conc; temp = temp; signal = signal })
+  Ok (record { flow = stream.flow; conc = stream.conc; temp = stream.temp; signal = signal })
 
 abbrev pub no_widths : Widths
 no_widths = record { flow = None; conc = None; temp = None; signal = None }
@@ -75,7 +76,7 @@ unfoldable pub frame_of : Section → Reading Frame
 frame_of top = do
   format ← at_key format_of top (codes "format")
   run ← at_key (table_of run_of) top (codes "run")
-  limits ← at_key (table_of limits_of) top (codes "limits")
+  limits ← limits_of top
   width ← widths_at top
   Ok (record { ticks = run.0; window = run.1; limits = limits; width = width })
 

@@ -1,11 +1,12 @@
 -- The units of a plant text.
 use Rattle.std.specs.Prelude.{◌&&◌, ℤ, Bool, if◌then◌else◌}
 use Rattle.std.specs.Prelude.{List, [], ◌∷◌, bytes_eq, codes, Option, Some, None, Ok, unwrap_or}
-use Rattle.quant.specs.Interval.{Interval, wide}
-use Rattle.parts.specs.InRange.{ppm, gains, holdups, slopes, most_rate_points, most_stages, fewest_inputs, most_inputs}
+use Rattle.quant.specs.Interval.{wide}
+use Rattle.quant.specs.Operation.{ppm, gains, holdups, slopes}
+use Rattle.parts.specs.InRange.{most_rate_points, most_stages, fewest_inputs, most_inputs}
+use Rattle.parts.specs.InRange.{OwnLimits}
 use Rattle.parts.specs.declared.units.KindPart.{KindPart}
 use Rattle.parts.specs.declared.units.KindPart.TheVariants as part
-use Rattle.parts.specs.declared.units.OwnLimits.{OwnLimits}
 use Rattle.parts.specs.declared.units.UnitPart.{UnitPart}
 use Rattle.toml.specs.Data.{Data, as_array}
 use Rattle.flow_file.specs.declared.fault.TextFault.TheVariants as fault
@@ -18,7 +19,8 @@ use Rattle.flow_file.specs.declared.kinds.Opening.{Opening}
 use Rattle.flow_file.specs.declared.kinds.Settings.{Settings}
 use Rattle.flow_file.specs.Read.{Reading, ◌>>=◌}
 use Rattle.flow_file.specs.Value.{Bytes, or_fault, when, Section, table_of, at_key, at_optional, no_others}
-use Rattle.flow_file.specs.Value.{is_in, number_in, count_in, band_of, pair_of, text_of, name_of, reference_of, list_of}
+use Rattle.flow_file.specs.CommonKeys.{both_at, channels_of, quantities_of}
+use Rattle.flow_file.specs.Value.{is_in, number_in, count_in, band_of, pair_of, word_of, name_of, reference_of, list_of}
 
 -- a part of a whole, and a gain
 abbrev pub ppm_in : Bytes → Data → Reading ℤ
@@ -41,18 +43,15 @@ rate_point_of place node = do
 unfoldable pub contents_of : Section → Reading Contents
 contents_of section = do
   volume ← at_key band_of section (codes "volume")
-  flow ← at_key band_of section (codes "flow")
-  conc ← at_key band_of section (codes "conc")
-  temp ← at_key band_of section (codes "temp")
-  Ok (record { volume = volume; flow = flow; conc = conc; temp = temp })
+  stream ← channels_of (at_key band_of) section
+  Ok (record { volume = volume; flow = stream.flow; conc = stream.conc; temp = stream.temp })
 
 unfoldable pub tank_of : Section → Reading KindPart
 tank_of section = do
-  input ← at_key reference_of section (codes "in")
-  valve ← at_key reference_of section (codes "valve")
+  reads ← both_at reference_of section (codes "in") (codes "valve")
   k ← at_key ppm_in section (codes "k")
   held ← contents_of section
-  Ok (part.Tank input valve k held.volume held.flow held.conc held.temp)
+  Ok (part.Tank reads.0 reads.1 k held.volume held.flow held.conc held.temp)
 
 -- what a reactor's contents do, and what they are at the first tick
 unfoldable pub reaction_of : Section → Reading Reaction
@@ -66,25 +65,18 @@ reaction_of section = do
 
 unfoldable pub reactor_of : Section → Reading KindPart
 reactor_of section = do
-  input ← at_key reference_of section (codes "in")
-  valve ← at_key reference_of section (codes "valve")
+  reads ← both_at reference_of section (codes "in") (codes "valve")
   jacket ← at_key reference_of section (codes "jacket")
   its ← reaction_of section
-  Ok (part.Reactor input valve jacket its.k its.rate its.heat its.ua its.held.volume its.held.flow its.held.conc its.held.temp)
-
--- the bands at two keys, a flow and a temperature
-unfoldable pub flow_and_temp_of : Section → Bytes → Bytes → Reading (Interval × Interval)
-flow_and_temp_of section flow_key temp_key = do
-  flow ← at_key band_of section flow_key
-  temp ← at_key band_of section temp_key
-  Ok (flow, temp)
+  Ok (part.Reactor reads.0 reads.1 jacket
+      its.k its.rate its.heat its.ua its.held.volume its.held.flow its.held.conc its.held.temp)
 
 -- what a column starts from
 unfoldable pub opening_of : Section → Reading Opening
 opening_of section = do
   x ← at_key band_of section (codes "x")
-  liquid ← flow_and_temp_of section (codes "liquid_flow") (codes "liquid_temp")
-  vapour ← flow_and_temp_of section (codes "vapour_flow") (codes "vapour_temp")
+  liquid ← both_at band_of section (codes "liquid_flow") (codes "liquid_temp")
+  vapour ← both_at band_of section (codes "vapour_flow") (codes "vapour_temp")
   Ok (record { x = x; liquid_flow = liquid.0; liquid_temp = liquid.1; vapour_flow = vapour.0; vapour_temp = vapour.1 })
 
 -- the stages of a column, and what each holds and lets go
@@ -97,30 +89,33 @@ stages_of section = do
 
 unfoldable pub column_of : Section → Reading KindPart
 column_of section = do
-  liquid ← at_key reference_of section (codes "liquid")
-  vapour ← at_key reference_of section (codes "vapour")
+  reads ← both_at reference_of section (codes "liquid") (codes "vapour")
   its ← stages_of section
   held ← opening_of section
-  Ok (part.Column liquid vapour
+  Ok (part.Column reads.0 reads.1
       its.stages its.holdup its.slope held.x held.liquid_flow held.liquid_temp held.vapour_flow held.vapour_temp)
 
 -- the numbers and the bands of a controller
 unfoldable pub settings_of : Section → Reading Settings
 settings_of section = do
-  kp ← at_key gain_in section (codes "kp")
-  ki ← at_key gain_in section (codes "ki")
+  gains ← both_at gain_in section (codes "kp") (codes "ki")
   bias ← at_key (number_in wide) section (codes "bias")
   integral_limits ← at_key band_of section (codes "integral_limits")
-  integral ← at_key band_of section (codes "integral")
-  out ← at_key band_of section (codes "out")
-  Ok (record { kp = kp; ki = ki; bias = bias; integral_limits = integral_limits; integral = integral; out = out })
+  starts ← both_at band_of section (codes "integral") (codes "out")
+  Ok (record {
+    kp = gains.0;
+    ki = gains.1;
+    bias = bias;
+    integral_limits = integral_limits;
+    integral = starts.0;
+    out = starts.1;
+  })
 
 unfoldable pub controller_of : Section → Reading KindPart
 controller_of section = do
-  set ← at_key reference_of section (codes "set")
-  measured ← at_key reference_of section (codes "measured")
+  reads ← both_at reference_of section (codes "set") (codes "measured")
   its ← settings_of section
-  Ok (part.Controller set measured its.kp its.ki its.bias its.integral_limits its.integral its.out)
+  Ok (part.Controller reads.0 reads.1 its.kp its.ki its.bias its.integral_limits its.integral its.out)
 
 unfoldable pub mixer_of : Section → Reading KindPart
 mixer_of section = do
@@ -144,10 +139,8 @@ kind_named text =
     else if bytes_eq text (codes "splitter") then Some kind.Splitter
     else None
 
-unfoldable pub unit_kind_of : Bytes → Data → Reading UnitKind
-unit_kind_of place node = do
-  text ← text_of place node
-  or_fault (kind_named text) (fault.OutOfRange place)
+abbrev pub unit_kind_of : Bytes → Data → Reading UnitKind
+unit_kind_of = word_of kind_named
 
 -- the keys of each kind
 unfoldable pub keys_of : UnitKind → List Bytes
@@ -175,15 +168,8 @@ part_of kind.Mixer section = mixer_of section
 part_of kind.Splitter section = splitter_of section
 
 -- the limits that are a unit's own
-unfoldable pub own_limits_of : Section → Reading OwnLimits
-own_limits_of section = do
-  flow ← at_optional band_of section (codes "flow")
-  conc ← at_optional band_of section (codes "conc")
-  temp ← at_optional band_of section (codes "temp")
-  volume ← at_optional band_of section (codes "volume")
-  signal ← at_optional band_of section (codes "signal")
-  others ← no_others (codes "flow" ∷ codes "conc" ∷ codes "temp" ∷ codes "volume" ∷ codes "signal" ∷ []) section
-  Ok (record { flow = flow; conc = conc; temp = temp; volume = volume; signal = signal })
+abbrev pub own_limits_of : Section → Reading OwnLimits
+own_limits_of = quantities_of (at_optional band_of)
 
 abbrev pub no_limits : OwnLimits
 no_limits = record { flow = None; conc = None; temp = None; volume = None; signal = None }

@@ -132,16 +132,23 @@ band_of place node = number_band place (as_integer node) (pair_band place node)
 unfoldable pub text_of : Bytes → Data → Reading Bytes
 text_of place node = or_fault (as_str node) (fault.WrongType place)
 
--- a name, and a reference
-unfoldable pub name_of : Bytes → Data → Reading Bytes
-name_of place node = do
+-- a text of one form: a name, and a reference
+unfoldable pub formed_text : (Bytes → Bool) → Bytes → Data → Reading Bytes
+formed_text is place node = do
   text ← text_of place node
-  when (is_name text) text (fault.BadName place)
+  when (is text) text (fault.BadName place)
 
-unfoldable pub reference_of : Bytes → Data → Reading Bytes
-reference_of place node = do
-  text ← text_of place node
-  when (is_reference text) text (fault.BadName place)
+abbrev pub name_of : Bytes → Data → Reading Bytes
+name_of = formed_text is_name
+
+abbrev pub reference_of : Bytes → Data → Reading Bytes
+reference_of = formed_text is_reference
+
+-- what a word means, which has to be one of a list
+unfoldable pub word_of : {A : Type 0} → (Bytes → Option A) → Bytes → Data → Reading A
+word_of meaning place node = do
+  word ← text_of place node
+  or_fault (meaning word) (fault.OutOfRange place)
 
 -- how many values an array has
 abbrev pub item_count : Items → ℕ

@@ -1,8 +1,8 @@
 -- Words of the proofs: a reader of the contracts needs none of them.
 -- Where the groups of a unit's keys lie.
-use Rattle.std.specs.Prelude.{◌≤◌}
 use Rattle.quant.specs.Interval.{Holds, wide}
-use Rattle.parts.specs.InRange.{ppm, gains, holdups, slopes, most_stages, IsWide, AreRatePoints, AreContents}
+use Rattle.quant.specs.Operation.{ppm, gains, holdups, slopes}
+use Rattle.parts.specs.InRange.{IsBetween, most_stages, IsWide, AreRatePoints, AreContents}
 use Rattle.flow_file.specs.declared.kinds.Reaction.{Reaction}
 use Rattle.flow_file.specs.declared.kinds.Stages.{Stages}
 use Rattle.flow_file.specs.declared.kinds.Settings.{Settings}
@@ -15,7 +15,7 @@ pub record IsReaction (its : Reaction) : Type 0 where
   pub held : AreContents its.held.volume its.held.flow its.held.conc its.held.temp
 
 pub record AreStages (its : Stages) : Type 0 where
-  pub stages : (1 ≤ its.stages) × (its.stages ≤ most_stages)
+  pub stages : IsBetween 1 most_stages its.stages
   pub holdup : Holds holdups its.holdup
   pub slope : Holds slopes its.slope
 

@@ -2,6 +2,7 @@
 
 ghost use Rattle.std.specs.Prelude.{◌≡◌, ◌≤◌, IfOk, length, vec_len};
 ghost use Rattle.std.specs.List.{AllByRecursion};
+ghost use Rattle.parts.specs.InRange.{AreBetween};
 ghost use Rattle.toml.specs.View.{view, array_view};
 ghost use Rattle.flow_file.specs.Read.{GivesBy};
 ghost use Rattle.flow_file.specs.Value.{array_between, read_from, list_of};
@@ -77,8 +78,7 @@ impl<R: Reader> Reader for ListOf<R> {
 
     ghost reads = { λ list. list_of (R.reads list.each) list.least list.most };
 
-    ghost may_be = { λ list items.
-        (list.least ≤ length items) × (length items ≤ list.most) × AllByRecursion (R.may_be list.each) items };
+    ghost may_be = { λ list. AreBetween list.least list.most (R.may_be list.each) };
 
     #[tactic(auto, unfolding(crate::specs::Value::list_of))]
     fn read(self, alloc: Global, spot: Spot, node: &Value) -> Result<Listed<R::Item>, Unread> {

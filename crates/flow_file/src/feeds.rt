@@ -6,16 +6,17 @@ ghost use Rattle.toml.specs.Data.{as_array};
 ghost use Rattle.toml.specs.View.{view};
 ghost use Rattle.flow_file.specs.Read.{Gives};
 ghost use Rattle.flow_file.specs.Feeds.{piece_of, begins_with_array, feed_band_of};
-ghost use Rattle.flow_file.specs.Feeds.{material_of, signal_of, kind_of, signal_named, is_signal_of, feed_of};
+ghost use Rattle.flow_file.specs.Feeds.{material_of, signal_of, kind_of, signal_named, feed_of};
 ghost use Rattle.flow_file.specs.Spots.{seen};
 
 use crate::arrays::ListOf;
+use crate::common_keys::{Channels, Required, channels_of};
 use crate::fault::Unread;
 use crate::reader::Reader;
 use crate::section::Section;
 use crate::spot::{Refusal, Spot};
 use crate::tables::KeysReader;
-use crate::values::{Name, NumberIn, WideBand, band_between, text_at, triple_of};
+use crate::values::{NAME, NumberIn, WideBand, WordOf, Words, band_between, triple_of};
 use parts::{FeedBand, FeedKind, FeedPart, Piece};
 use std::alloc::Global;
 use toml::Value;
@@ -102,9 +103,10 @@ fn material_of(alloc: Global, section: &Section) -> Result<FeedKind, Unread>
     ensures exact { Gives result (material_of (seen section.now)) }
     ensures inside { IfOk result IsFeedKind }
 {
-    let flow = section.read(alloc, "flow", FeedBandReader)?;
-    let conc = section.read(alloc, "conc", FeedBandReader)?;
-    let temp = section.read(alloc, "temp", FeedBandReader)?;
+    let bands = Required {
+        value: FeedBandReader,
+    };
+    let Channels { flow, conc, temp } = channels_of(alloc, section, bands)?;
     section.no_others(alloc, &["name", "kind", "flow", "conc", "temp"])?;
     Ok(FeedKind::Material { flow, conc, temp })
 }
@@ -132,34 +134,20 @@ fn kind_of(alloc: Global, section: &Section, is_signal: bool) -> Result<FeedKind
     }
 }
 
-/// Whether a feed of this kind is a signal.
-fn signal_named(kind: &str) -> Option<bool>
-    ensures { result ≡ signal_named kind.now }
-{
-    match kind {
-        "material" => Some(false),
-        "signal" => Some(true),
-        _ => None,
-    }
-}
-
-/// The kind of a feed: whether it is a signal.
+/// The kinds of feeds: whether one is a signal.
 #[derive(Clone, Copy)]
-struct SignalReader;
+struct FeedKinds;
 
-impl Reader for SignalReader {
+impl Words for FeedKinds {
     type Item = bool;
 
-    ghost reads = { λ _. is_signal_of };
+    ghost meaning = { λ _. signal_named };
 
-    ghost may_be = { λ _ _. Unit {0} };
-
-    #[tactic(auto, using(crate::proofs::Refusals::refused), unfolding(crate::specs::Feeds::is_signal_of))]
-    fn read(self, alloc: Global, spot: Spot, node: &Value) -> Result<bool, Unread> {
-        let text = text_at(alloc, spot, node)?;
-        match signal_named(text) {
-            Some(is_signal) => Ok(is_signal),
-            None => Err(spot.refused(alloc, Refusal::OutOfRange)),
+    fn meaning(self, word: &str) -> Option<bool> {
+        match word {
+            "material" => Some(false),
+            "signal" => Some(true),
+            _ => None,
         }
     }
 }
@@ -177,8 +165,8 @@ impl KeysReader for FeedReader {
 
     #[tactic(auto, unfolding(crate::specs::Feeds::feed_of))]
     fn read_keys(self, alloc: Global, section: &Section) -> Result<FeedPart, Unread> {
-        let name = section.read(alloc, "name", Name)?;
-        let is_signal = section.read(alloc, "kind", SignalReader)?;
+        let name = section.read(alloc, "name", NAME)?;
+        let is_signal = section.read(alloc, "kind", WordOf { words: FeedKinds })?;
         let kind = kind_of(alloc, section, is_signal)?;
         Ok(FeedPart { name, kind })
     }

@@ -1,21 +1,24 @@
 //! Readers of what a unit of each kind says.
 
 ghost use Rattle.std.specs.Prelude.{IfOk};
-ghost use Rattle.parts.specs.InRange.{IsWide, IsRatePoint, IsKindPart};
+ghost use Rattle.parts.specs.InRange.{IsRatePoint, IsKindPart};
 ghost use Rattle.parts.specs.InRange.{AreContents, AreColumnBands};
 ghost use Rattle.flow_file.specs.Read.{Gives};
-ghost use Rattle.flow_file.specs.Units.{rate_point_of, contents_of, flow_and_temp_of, opening_of};
+ghost use Rattle.flow_file.specs.Units.{rate_point_of, contents_of, opening_of};
 ghost use Rattle.flow_file.specs.Units.{tank_of, reaction_of, reactor_of, stages_of, column_of, settings_of, controller_of};
 ghost use Rattle.flow_file.specs.Units.{mixer_of, splitter_of};
 ghost use Rattle.flow_file.specs.Within.{IsReaction, AreStages, AreSettings};
 ghost use Rattle.flow_file.specs.Spots.{seen};
 
 use crate::arrays::ListOf;
+use crate::common_keys::{Required, both_at, channels_of};
 use crate::fault::Unread;
 use crate::reader::Reader;
 use crate::section::Section;
 use crate::spot::{Refusal, Spot};
-use crate::values::{CountIn, NumberIn, Reference, WIDEST, WideBand, pair_of};
+use crate::values::{
+    CountIn, NumberIn, REFERENCE, ReferenceForm, TextOf, WIDEST, WideBand, pair_of,
+};
 use parts::{KindPart, RatePoints};
 use quant::{Band, MILLION};
 use std::alloc::Global;
@@ -127,8 +130,8 @@ const RATE_POINTS: ListOf<RatePointReader> = ListOf {
 };
 
 /// What a mixer reads.
-const INPUTS: ListOf<Reference> = ListOf {
-    each: Reference,
+const INPUTS: ListOf<TextOf<ReferenceForm>> = ListOf {
+    each: REFERENCE,
     least: 2,
     most: 8,
 };
@@ -140,14 +143,12 @@ fn contents_of(alloc: Global, section: &Section) -> Result<Contents, Unread>
     ensures inside { IfOk result (λ held. AreContents held.volume held.flow held.conc held.temp) }
 {
     let volume = section.read(alloc, "volume", WideBand)?;
-    let flow = section.read(alloc, "flow", WideBand)?;
-    let conc = section.read(alloc, "conc", WideBand)?;
-    let temp = section.read(alloc, "temp", WideBand)?;
+    let stream = channels_of(alloc, section, Required { value: WideBand })?;
     Ok(Contents {
         volume,
-        flow,
-        conc,
-        temp,
+        flow: stream.flow,
+        conc: stream.conc,
+        temp: stream.temp,
     })
 }
 
@@ -156,8 +157,7 @@ pub(crate) fn tank_of(alloc: Global, section: &Section) -> Result<KindPart, Unre
     ensures exact { Gives result (tank_of (seen section.now)) }
     ensures inside { IfOk result IsKindPart }
 {
-    let input = section.read(alloc, "in", Reference)?;
-    let valve = section.read(alloc, "valve", Reference)?;
+    let (input, valve) = both_at(alloc, section, "in", "valve", REFERENCE)?;
     let k = section.read(alloc, "k", PPM)?;
     let held = contents_of(alloc, section)?;
     Ok(KindPart::Tank {
@@ -196,9 +196,8 @@ pub(crate) fn reactor_of(alloc: Global, section: &Section) -> Result<KindPart, U
     ensures exact { Gives result (reactor_of (seen section.now)) }
     ensures inside { IfOk result IsKindPart }
 {
-    let input = section.read(alloc, "in", Reference)?;
-    let valve = section.read(alloc, "valve", Reference)?;
-    let jacket = section.read(alloc, "jacket", Reference)?;
+    let (input, valve) = both_at(alloc, section, "in", "valve", REFERENCE)?;
+    let jacket = section.read(alloc, "jacket", REFERENCE)?;
     let its = reaction_of(alloc, section)?;
     Ok(KindPart::Reactor {
         input,
@@ -215,22 +214,6 @@ pub(crate) fn reactor_of(alloc: Global, section: &Section) -> Result<KindPart, U
     })
 }
 
-/// The bands at two keys, a flow and a temperature.
-#[tactic(auto, unfolding(crate::specs::Units::flow_and_temp_of))]
-fn flow_and_temp_of(
-    alloc: Global,
-    section: &Section,
-    flow_key: &str,
-    temp_key: &str,
-) -> Result<(Band, Band), Unread>
-    ensures exact { Gives result (flow_and_temp_of (seen section.now) flow_key.now temp_key.now) }
-    ensures inside { IfOk result (λ bands. IsWide bands.0 × IsWide bands.1) }
-{
-    let flow = section.read(alloc, flow_key, WideBand)?;
-    let temp = section.read(alloc, temp_key, WideBand)?;
-    Ok((flow, temp))
-}
-
 /// What a column starts from.
 #[tactic(auto, unfolding(crate::specs::Units::opening_of))]
 fn opening_of(alloc: Global, section: &Section) -> Result<Opening, Unread>
@@ -239,17 +222,19 @@ fn opening_of(alloc: Global, section: &Section) -> Result<Opening, Unread>
         AreColumnBands held.x held.liquid_flow held.liquid_temp held.vapour_flow held.vapour_temp) }
 {
     let x = section.read(alloc, "x", WideBand)?;
-    let (liquid_flow, liquid_temp) = flow_and_temp_of(
+    let (liquid_flow, liquid_temp) = both_at(
         alloc,
         section,
         "liquid_flow",
         "liquid_temp",
+        WideBand,
     )?;
-    let (vapour_flow, vapour_temp) = flow_and_temp_of(
+    let (vapour_flow, vapour_temp) = both_at(
         alloc,
         section,
         "vapour_flow",
         "vapour_temp",
+        WideBand,
     )?;
     Ok(Opening {
         x,
@@ -281,8 +266,7 @@ pub(crate) fn column_of(alloc: Global, section: &Section) -> Result<KindPart, Un
     ensures exact { Gives result (column_of (seen section.now)) }
     ensures inside { IfOk result IsKindPart }
 {
-    let liquid = section.read(alloc, "liquid", Reference)?;
-    let vapour = section.read(alloc, "vapour", Reference)?;
+    let (liquid, vapour) = both_at(alloc, section, "liquid", "vapour", REFERENCE)?;
     let its = stages_of(alloc, section)?;
     let held = opening_of(alloc, section)?;
     Ok(KindPart::Column {
@@ -305,12 +289,10 @@ fn settings_of(alloc: Global, section: &Section) -> Result<Settings, Unread>
     ensures exact { Gives result (settings_of (seen section.now)) }
     ensures inside { IfOk result AreSettings }
 {
-    let kp = section.read(alloc, "kp", GAIN)?;
-    let ki = section.read(alloc, "ki", GAIN)?;
+    let (kp, ki) = both_at(alloc, section, "kp", "ki", GAIN)?;
     let bias = section.read(alloc, "bias", WIDE)?;
     let integral_limits = section.read(alloc, "integral_limits", WideBand)?;
-    let integral = section.read(alloc, "integral", WideBand)?;
-    let out = section.read(alloc, "out", WideBand)?;
+    let (integral, out) = both_at(alloc, section, "integral", "out", WideBand)?;
     Ok(Settings {
         kp,
         ki,
@@ -326,8 +308,7 @@ pub(crate) fn controller_of(alloc: Global, section: &Section) -> Result<KindPart
     ensures exact { Gives result (controller_of (seen section.now)) }
     ensures inside { IfOk result IsKindPart }
 {
-    let set = section.read(alloc, "set", Reference)?;
-    let measured = section.read(alloc, "measured", Reference)?;
+    let (set, measured) = both_at(alloc, section, "set", "measured", REFERENCE)?;
     let its = settings_of(alloc, section)?;
     Ok(KindPart::Controller {
         set,
@@ -355,7 +336,7 @@ pub(crate) fn splitter_of(alloc: Global, section: &Section) -> Result<KindPart, 
     ensures exact { Gives result (splitter_of (seen section.now)) }
     ensures inside { IfOk result IsKindPart }
 {
-    let input = section.read(alloc, "in", Reference)?;
+    let input = section.read(alloc, "in", REFERENCE)?;
     let share = section.read(alloc, "share", PPM)?;
     Ok(KindPart::Splitter { input, share })
 }

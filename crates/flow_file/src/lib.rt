@@ -2,6 +2,7 @@
 #![tactic(auto)]
 
 mod arrays;
+mod common_keys;
 mod fault;
 mod feeds;
 mod kinds;

@@ -1,7 +1,7 @@
 //! The reading of a whole plant text.
 
 ghost use Rattle.std.specs.Prelude.{◌≤◌, IfOk};
-ghost use Rattle.parts.specs.InRange.{most_ticks, longest_window, AreWideLimits, AreWidths, AreFeeds};
+ghost use Rattle.parts.specs.InRange.{IsBetween, most_ticks, longest_window, AreWideLimits, AreWidths, AreFeeds};
 ghost use Rattle.toml.specs.View.{table_view};
 ghost use Rattle.flow_file.specs.Read.{Gives, GivesBy};
 ghost use Rattle.flow_file.specs.Value.{tree_of};
@@ -10,6 +10,7 @@ ghost use Rattle.flow_file.specs.Plant.{format_of, run_of, limits_of, widths_of}
 ghost use Rattle.flow_file.specs.Plant.{widths_at, feeds_at, frame_of, parts_at, parts_of, parts_in};
 
 use crate::arrays::ListOf;
+use crate::common_keys::{Optional, QuantitiesOf, Required, channels_of};
 use crate::fault::{TextFault, Unread};
 use crate::feeds::FeedReader;
 use crate::reader::Reader;
@@ -102,7 +103,7 @@ impl KeysReader for RunReader {
 
     ghost reads = { λ _. run_of };
 
-    ghost may_be = { λ _ run. (1 ≤ run.0) × (run.0 ≤ most_ticks) × (1 ≤ run.1) × (run.1 ≤ longest_window) };
+    ghost may_be = { λ _ run. IsBetween 1 most_ticks run.0 × IsBetween 1 longest_window run.1 };
 
     #[tactic(auto, unfolding(crate::specs::Plant::run_of))]
     fn read_keys(self, alloc: Global, section: &Section) -> Result<(u32, u32), Unread> {
@@ -113,34 +114,12 @@ impl KeysReader for RunReader {
     }
 }
 
-/// The limits of the plant.
-#[derive(Clone, Copy)]
-struct LimitsReader;
-
-impl KeysReader for LimitsReader {
-    type Item = Limits;
-
-    ghost reads = { λ _. limits_of };
-
-    ghost may_be = { λ _. AreWideLimits };
-
-    #[tactic(auto, unfolding(crate::specs::Plant::limits_of))]
-    fn read_keys(self, alloc: Global, section: &Section) -> Result<Limits, Unread> {
-        let flow = section.read(alloc, "flow", WideBand)?;
-        let conc = section.read(alloc, "conc", WideBand)?;
-        let temp = section.read(alloc, "temp", WideBand)?;
-        let volume = section.read(alloc, "volume", WideBand)?;
-        let signal = section.read(alloc, "signal", WideBand)?;
-        section.no_others(alloc, &["flow", "conc", "temp", "volume", "signal"])?;
-        Ok(Limits {
-            flow,
-            conc,
-            temp,
-            volume,
-            signal,
-        })
-    }
-}
+/// The limits of the plant, by the quantities that they limit.
+const LIMITS: TableOf<QuantitiesOf<Required<WideBand>>> = TableOf {
+    keys: QuantitiesOf {
+        each: Required { value: WideBand },
+    },
+};
 
 /// The widths that are asked for.
 #[derive(Clone, Copy)]
@@ -155,15 +134,13 @@ impl KeysReader for WidthsReader {
 
     #[tactic(auto, unfolding(crate::specs::Plant::widths_of))]
     fn read_keys(self, alloc: Global, section: &Section) -> Result<Widths, Unread> {
-        let flow = section.read_optional(alloc, "flow", WIDTH)?;
-        let conc = section.read_optional(alloc, "conc", WIDTH)?;
-        let temp = section.read_optional(alloc, "temp", WIDTH)?;
+        let stream = channels_of(alloc, section, Optional { value: WIDTH })?;
         let signal = section.read_optional(alloc, "signal", WIDTH)?;
         section.no_others(alloc, &["flow", "conc", "temp", "signal"])?;
         Ok(Widths {
-            flow,
-            conc,
-            temp,
+            flow: stream.flow,
+            conc: stream.conc,
+            temp: stream.temp,
             signal,
         })
     }
@@ -182,6 +159,22 @@ const UNITS: ListOf<TableOf<UnitReader>> = ListOf {
     least: 1,
     most: MOST,
 };
+
+/// The limits of the plant.
+#[tactic(auto, unfolding(crate::specs::Plant::limits_of))]
+fn limits_of(alloc: Global, top: &Section) -> Result<Limits, Unread>
+    ensures exact { Gives result (limits_of (seen top.now)) }
+    ensures inside { IfOk result AreWideLimits }
+{
+    let limit = top.read(alloc, "limits", LIMITS)?;
+    Ok(Limits {
+        flow: limit.flow,
+        conc: limit.conc,
+        temp: limit.temp,
+        volume: limit.volume,
+        signal: limit.signal,
+    })
+}
 
 /// The widths that the text asks for, or none.
 #[tactic(auto, unfolding(crate::specs::Plant::widths_at))]
@@ -210,14 +203,14 @@ fn feeds_at(alloc: Global, top: &Section) -> Result<FeedParts, Unread>
 #[tactic(auto, unfolding(crate::specs::Plant::frame_of))]
 fn frame_of(alloc: Global, top: &Section) -> Result<Frame, Unread>
     ensures exact { Gives result (frame_of (seen top.now)) }
-    ensures ticks { IfOk result (λ frame. (1 ≤ frame.ticks) × (frame.ticks ≤ most_ticks)) }
-    ensures window { IfOk result (λ frame. (1 ≤ frame.window) × (frame.window ≤ longest_window)) }
+    ensures ticks { IfOk result (λ frame. IsBetween 1 most_ticks frame.ticks) }
+    ensures window { IfOk result (λ frame. IsBetween 1 longest_window frame.window) }
     ensures limits { IfOk result (λ frame. AreWideLimits frame.limits) }
     ensures width { IfOk result (λ frame. AreWidths frame.width) }
 {
     top.read(alloc, "format", FormatReader)?;
     let (ticks, window) = top.read(alloc, "run", TableOf { keys: RunReader })?;
-    let limits = top.read(alloc, "limits", TableOf { keys: LimitsReader })?;
+    let limits = limits_of(alloc, top)?;
     let width = widths_at(alloc, top)?;
     Ok(Frame {
         ticks,

@@ -3,19 +3,17 @@
 ghost use Rattle.std.specs.Prelude.{◌≡◌, ◌∷◌, codes, IfOk};
 ghost use Rattle.parts.specs.InRange.{IsKindPart, AreOwnLimits, IsUnitPart};
 ghost use Rattle.flow_file.specs.Read.{Gives};
-ghost use Rattle.flow_file.specs.Units.{kind_named, unit_kind_of, keys_of, part_of, own_limits_of, last_limits_of, unit_of};
+ghost use Rattle.flow_file.specs.Units.{kind_named, keys_of, part_of, last_limits_of, unit_of};
 ghost use Rattle.flow_file.specs.Spots.{seen, texts};
 
+use crate::common_keys::{Optional, QuantitiesOf};
 use crate::fault::Unread;
 use crate::kinds::{column_of, controller_of, mixer_of, reactor_of, splitter_of, tank_of};
-use crate::reader::Reader;
 use crate::section::Section;
-use crate::spot::{Refusal, Spot};
 use crate::tables::{KeysReader, TableOf};
-use crate::values::{Name, WideBand, text_at};
+use crate::values::{NAME, WideBand, WordOf, Words};
 use parts::{KindPart, OwnLimits, UnitPart};
 use std::alloc::Global;
-use toml::Value;
 
 /// The kinds of units.
 #[derive(Clone, Copy, PartialEq, Eq)]
@@ -28,38 +26,23 @@ pub(crate) enum UnitKind {
     Splitter,
 }
 
-/// The kind of a unit by its name.
-fn kind_named(name: &str) -> Option<UnitKind>
-    ensures { result ≡ kind_named name.now }
-{
-    match name {
-        "tank" => Some(UnitKind::Tank),
-        "reactor" => Some(UnitKind::Reactor),
-        "column" => Some(UnitKind::Column),
-        "controller" => Some(UnitKind::Controller),
-        "mixer" => Some(UnitKind::Mixer),
-        "splitter" => Some(UnitKind::Splitter),
-        _ => None,
-    }
-}
-
-/// The kind of a unit.
 #[derive(Clone, Copy)]
-struct UnitKindReader;
+struct UnitKinds;
 
-impl Reader for UnitKindReader {
+impl Words for UnitKinds {
     type Item = UnitKind;
 
-    ghost reads = { λ _. unit_kind_of };
+    ghost meaning = { λ _. kind_named };
 
-    ghost may_be = { λ _ _. Unit {0} };
-
-    #[tactic(auto, using(crate::proofs::Refusals::refused), unfolding(crate::specs::Units::unit_kind_of))]
-    fn read(self, alloc: Global, spot: Spot, node: &Value) -> Result<UnitKind, Unread> {
-        let text = text_at(alloc, spot, node)?;
-        match kind_named(text) {
-            Some(kind) => Ok(kind),
-            None => Err(spot.refused(alloc, Refusal::OutOfRange)),
+    fn meaning(self, word: &str) -> Option<UnitKind> {
+        match word {
+            "tank" => Some(UnitKind::Tank),
+            "reactor" => Some(UnitKind::Reactor),
+            "column" => Some(UnitKind::Column),
+            "controller" => Some(UnitKind::Controller),
+            "mixer" => Some(UnitKind::Mixer),
+            "splitter" => Some(UnitKind::Splitter),
+            _ => None,
         }
     }
 }
@@ -130,33 +113,11 @@ fn unit_keys(kind: UnitKind) -> &'static [&'static str]
 }
 
 /// The limits that are a unit's own.
-#[derive(Clone, Copy)]
-struct OwnLimitsReader;
-
-impl KeysReader for OwnLimitsReader {
-    type Item = OwnLimits;
-
-    ghost reads = { λ _. own_limits_of };
-
-    ghost may_be = { λ _. AreOwnLimits };
-
-    #[tactic(auto, unfolding(crate::specs::Units::own_limits_of))]
-    fn read_keys(self, alloc: Global, section: &Section) -> Result<OwnLimits, Unread> {
-        let flow = section.read_optional(alloc, "flow", WideBand)?;
-        let conc = section.read_optional(alloc, "conc", WideBand)?;
-        let temp = section.read_optional(alloc, "temp", WideBand)?;
-        let volume = section.read_optional(alloc, "volume", WideBand)?;
-        let signal = section.read_optional(alloc, "signal", WideBand)?;
-        section.no_others(alloc, &["flow", "conc", "temp", "volume", "signal"])?;
-        Ok(OwnLimits {
-            flow,
-            conc,
-            temp,
-            volume,
-            signal,
-        })
-    }
-}
+const OWN_LIMITS: TableOf<QuantitiesOf<Optional<WideBand>>> = TableOf {
+    keys: QuantitiesOf {
+        each: Optional { value: WideBand },
+    },
+};
 
 /// The limits of a unit that has none of its own.
 const NO_LIMITS: OwnLimits = OwnLimits {
@@ -173,13 +134,7 @@ fn last_limits_of(alloc: Global, kind: UnitKind, section: &Section) -> Result<Ow
     ensures exact { Gives result (last_limits_of kind (seen section.now)) }
     ensures inside { IfOk result AreOwnLimits }
 {
-    let limits = section.read_optional(
-        alloc,
-        "limits",
-        TableOf {
-            keys: OwnLimitsReader,
-        },
-    )?;
+    let limits = section.read_optional(alloc, "limits", OWN_LIMITS)?;
     section.no_others(alloc, unit_keys(kind))?;
     Ok(limits.unwrap_or(NO_LIMITS))
 }
@@ -197,8 +152,8 @@ impl KeysReader for UnitReader {
 
     #[tactic(auto, unfolding(crate::specs::Units::unit_of))]
     fn read_keys(self, alloc: Global, section: &Section) -> Result<UnitPart, Unread> {
-        let name = section.read(alloc, "name", Name)?;
-        let kind = section.read(alloc, "kind", UnitKindReader)?;
+        let name = section.read(alloc, "name", NAME)?;
+        let kind = section.read(alloc, "kind", WordOf { words: UnitKinds })?;
         let part = part_of(alloc, kind, section)?;
         let limits = last_limits_of(alloc, kind, section)?;
         Ok(UnitPart {

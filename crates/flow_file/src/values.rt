@@ -1,13 +1,14 @@
 //! Readers of one value each: a number, a band, a name.
 
-ghost use Rattle.std.specs.Prelude.{◌≡◌, ◌≤◌, IfOk, option_and_then};
+ghost use Rattle.std.specs.Prelude.{◌≡◌, ◌≤◌, Bool, true, Option, IfOk, option_and_then};
 ghost use Rattle.quant.specs.Interval.{Holds};
-ghost use Rattle.parts.specs.InRange.{IsWide, IsName, IsReference};
+ghost use Rattle.parts.specs.InRange.{IsBetween, IsWide};
+ghost use Rattle.plant_names.specs.Name.{is_name, is_reference};
 ghost use Rattle.toml.specs.Data.{as_array};
 ghost use Rattle.toml.specs.View.{view};
 ghost use Rattle.flow_file.specs.Read.{Gives, GivesBy};
 ghost use Rattle.flow_file.specs.Value.{is_in, number_in, count_in, band_between, pair_of, triple_of, pair_band, band_of};
-ghost use Rattle.flow_file.specs.Value.{text_of, name_of, reference_of};
+ghost use Rattle.flow_file.specs.Value.{Bytes, text_of, formed_text, word_of};
 ghost use Rattle.flow_file.specs.Spots.{place_of};
 
 use crate::fault::Unread;
@@ -68,7 +69,7 @@ impl Reader for CountIn {
 
     ghost reads = { λ range. count_in range.least range.most };
 
-    ghost may_be = { λ range count. (range.least ≤ count) × (count ≤ range.most) };
+    ghost may_be = { λ range. IsBetween range.least range.most };
 
     #[tactic(auto, unfolding(crate::specs::Value::count_in))]
     fn read(self, alloc: Global, spot: Spot, node: &Value) -> Result<u32, Unread> {
@@ -153,7 +154,7 @@ impl Reader for WideBand {
 
 /// A text.
 #[tactic(auto, using(crate::proofs::Refusals::refused), unfolding(crate::specs::Value::text_of))]
-pub(crate) fn text_at<'a>(alloc: Global, spot: Spot, node: &'a Value) -> Result<&'a str, Unread>
+fn text_at<'a>(alloc: Global, spot: Spot, node: &'a Value) -> Result<&'a str, Unread>
     ensures { GivesBy (λ text. text.now) result (text_of (place_of spot.entry) (view node.now)) }
 {
     match node.as_str() {
@@ -162,44 +163,98 @@ pub(crate) fn text_at<'a>(alloc: Global, spot: Spot, node: &'a Value) -> Result<
     }
 }
 
-/// A name.
-#[derive(Clone, Copy)]
-pub(crate) struct Name;
+/// What a text that names something is written as.
+pub(crate) trait Form: Copy {
+    /// Whether a text is written so.
+    ghost is: { Self → Bytes → Bool };
 
-impl Reader for Name {
+    fn is(self, text: &str) -> bool
+        ensures { result ≡ is self text.now };
+}
+
+/// A text of this form.
+#[derive(Clone, Copy)]
+pub(crate) struct TextOf<F> {
+    pub form: F,
+}
+
+impl<F: Form> Reader for TextOf<F> {
     type Item = Text;
 
-    ghost reads = { λ _. name_of };
+    ghost reads = { λ text. formed_text (F.is text.form) };
 
-    ghost may_be = { λ _. IsName };
+    ghost may_be = { λ text bytes. F.is text.form bytes ≡ true };
 
-    #[tactic(auto, using(crate::proofs::Refusals::refused), unfolding(crate::specs::Value::name_of))]
+    #[tactic(auto, using(crate::proofs::Refusals::refused), unfolding(crate::specs::Value::formed_text))]
     fn read(self, alloc: Global, spot: Spot, node: &Value) -> Result<Text, Unread> {
         let text = text_at(alloc, spot, node)?;
-        if !is_name(text.as_bytes()) {
+        if !self.form.is(text) {
             return Err(spot.refused(alloc, Refusal::BadName));
         }
         Ok(Text::copied(alloc, text.as_bytes())?)
     }
 }
 
-/// A reference: a name, or two names with a dot between them.
 #[derive(Clone, Copy)]
-pub(crate) struct Reference;
+pub(crate) struct NameForm;
 
-impl Reader for Reference {
-    type Item = Text;
+impl Form for NameForm {
+    ghost is = { λ _. is_name };
 
-    ghost reads = { λ _. reference_of };
+    fn is(self, text: &str) -> bool {
+        is_name(text.as_bytes())
+    }
+}
 
-    ghost may_be = { λ _. IsReference };
+#[derive(Clone, Copy)]
+pub(crate) struct ReferenceForm;
 
-    #[tactic(auto, using(crate::proofs::Refusals::refused), unfolding(crate::specs::Value::reference_of))]
-    fn read(self, alloc: Global, spot: Spot, node: &Value) -> Result<Text, Unread> {
+impl Form for ReferenceForm {
+    ghost is = { λ _. is_reference };
+
+    fn is(self, text: &str) -> bool {
+        is_reference(text)
+    }
+}
+
+/// A name.
+pub(crate) const NAME: TextOf<NameForm> = TextOf { form: NameForm };
+
+/// A reference: a name, or two names with a dot between them.
+pub(crate) const REFERENCE: TextOf<ReferenceForm> = TextOf {
+    form: ReferenceForm,
+};
+
+/// The words of a list, and what each means.
+pub(crate) trait Words: Copy {
+    type Item: Drop;
+
+    /// What a word means, if it is of the list.
+    ghost meaning: { Self → Bytes → Option Self.Item };
+
+    fn meaning(self, word: &str) -> Option<Self::Item>
+        ensures { result ≡ meaning self word.now };
+}
+
+/// A word of a list.
+#[derive(Clone, Copy)]
+pub(crate) struct WordOf<W> {
+    pub words: W,
+}
+
+impl<W: Words> Reader for WordOf<W> {
+    type Item = W::Item;
+
+    ghost reads = { λ word. word_of (W.meaning word.words) };
+
+    ghost may_be = { λ _ _. Unit {0} };
+
+    #[tactic(auto, using(crate::proofs::Refusals::refused), unfolding(crate::specs::Value::word_of))]
+    fn read(self, alloc: Global, spot: Spot, node: &Value) -> Result<W::Item, Unread> {
         let text = text_at(alloc, spot, node)?;
-        if !is_reference(text) {
-            return Err(spot.refused(alloc, Refusal::BadName));
+        match self.words.meaning(text) {
+            Some(meaning) => Ok(meaning),
+            None => Err(spot.refused(alloc, Refusal::OutOfRange)),
         }
-        Ok(Text::copied(alloc, text.as_bytes())?)
     }
 }

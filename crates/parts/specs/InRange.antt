@@ -1,8 +1,8 @@
 -- The ranges of what a plant file says.
-use Rattle.std.specs.Prelude.{◌≡◌, ◌≤◌, ℕ, ℤ, pos, true, List, length, IfSome}
+use Rattle.std.specs.Prelude.{◌≡◌, ◌≤◌, ℕ, ℤ, pos, true, List, length, IfSome, Option}
 use Rattle.std.specs.List.{AllByRecursion}
-use Rattle.quant.specs.Interval.{Interval, Holds, IsBand, IsInside, wide, around}
-use Rattle.quant.specs.Operation.{million}
+use Rattle.quant.specs.Interval.{Interval, Holds, IsBand, IsInside, wide}
+use Rattle.quant.specs.Operation.{ppm, gains, holdups, slopes}
 use Rattle.quant.specs.declared.limits.Limits.{Limits}
 use Rattle.parts.specs.declared.feeds.Piece.{Piece}
 use Rattle.parts.specs.declared.feeds.FeedBand.{FeedBand}
@@ -12,65 +12,22 @@ use Rattle.parts.specs.declared.feeds.FeedKind.TheVariants as feed_kind
 use Rattle.parts.specs.declared.feeds.FeedPart.{FeedPart}
 use Rattle.parts.specs.declared.units.KindPart.{KindPart}
 use Rattle.parts.specs.declared.units.KindPart.TheVariants as kind
-use Rattle.parts.specs.declared.units.OwnLimits.{OwnLimits}
+use Rattle.parts.specs.declared.units.Quantities.{Quantities}
 use Rattle.parts.specs.declared.units.UnitPart.{UnitPart}
 use Rattle.parts.specs.declared.parts.Widths.{Widths}
 use Rattle.plant_names.specs.Name.{is_name, is_reference}
 use Rattle.parts.specs.Parts.{FileParts}
 
--- the whole numbers from lo to hi, both not negative; and a part of a whole, in ppm
+-- the whole numbers from lo to hi, both not negative
 abbrev pub from_to : ℕ → ℕ → Interval
 from_to lo hi = record { lo = pos lo; hi = pos hi }
 
-abbrev pub ppm : Interval
-ppm = record { lo = pos 0; hi = million }
+-- a count from the least to the most, and a list of so many values that meet P
+abbrev pub IsBetween : ℕ → ℕ → ℕ → Type 0
+IsBetween least most n = (least ≤ n) × (n ≤ most)
 
--- what a gain may be, in ppm; what a stage of a column may hold, in mL; what its slope may be, in ppm; and a width that
--- may be asked for
-abbrev pub gains : Interval
-gains = around 1000000000
-
-abbrev pub holdups : Interval
-holdups = from_to 1 1000000000000
-
-abbrev pub slopes : Interval
-slopes = from_to 0 1000000000
-
-abbrev pub widths : Interval
-widths = from_to 0 2000000000000
-
--- the most ticks of a run and of a window, the most feeds and units, and the most pieces of a feed's band
-abbrev pub most_ticks : ℕ
-most_ticks = 100000
-
-abbrev pub longest_window : ℕ
-longest_window = 64
-
-abbrev pub most_feeds : ℕ
-most_feeds = 256
-
-abbrev pub most_units : ℕ
-most_units = 256
-
-abbrev pub most_pieces : ℕ
-most_pieces = 1000
-
--- the greatest tick at which a piece begins
-abbrev pub last_piece : ℕ
-last_piece = 1000000000
-
--- the most points of a rate table, the most stages of a column, and the fewest and the most inputs of a mixer
-abbrev pub most_rate_points : ℕ
-most_rate_points = 64
-
-abbrev pub most_stages : ℕ
-most_stages = 64
-
-abbrev pub fewest_inputs : ℕ
-fewest_inputs = 2
-
-abbrev pub most_inputs : ℕ
-most_inputs = 8
+abbrev pub AreBetween : {A : Type 0} → ℕ → ℕ → (A → Type 0) → List A → Type 0
+AreBetween least most P xs = (least ≤ length xs) × (length xs ≤ most) × AllByRecursion P xs
 
 -- a band of wide numbers
 abbrev pub IsWide : Interval → Type 0
@@ -82,11 +39,18 @@ IsName bytes = is_name bytes ≡ true
 abbrev pub IsReference : List ℕ → Type 0
 IsReference bytes = is_reference bytes ≡ true
 
+-- a piece, by the greatest tick at which one begins; and the pieces of a feed's band
+abbrev pub last_piece : ℕ
+last_piece = 1000000000
+
 abbrev pub IsPiece : Piece → Type 0
 IsPiece piece = (piece.tick ≤ last_piece) × IsWide piece.band
 
+abbrev pub most_pieces : ℕ
+most_pieces = 1000
+
 abbrev pub ArePieces : List Piece → Type 0
-ArePieces pieces = (1 ≤ length pieces) × (length pieces ≤ most_pieces) × AllByRecursion IsPiece pieces
+ArePieces = AreBetween 1 most_pieces IsPiece
 
 abbrev pub IsFeedBand : FeedBand → Type 0
 IsFeedBand (feed_band.Constant band) = IsWide band
@@ -100,20 +64,33 @@ pub record IsFeedPart (feed : FeedPart) : Type 0 where
   pub name : IsName feed.name
   pub kind : IsFeedKind feed.kind
 
--- a point of a rate table, and the table's points
+-- a point of a rate table, and the points of a table, which are not many
 abbrev pub IsRatePoint : ℤ × ℤ → Type 0
 IsRatePoint point = Holds wide point.0 × Holds ppm point.1
 
+abbrev pub most_rate_points : ℕ
+most_rate_points = 64
+
 abbrev pub AreRatePoints : List (ℤ × ℤ) → Type 0
-AreRatePoints points = (1 ≤ length points) × (length points ≤ most_rate_points) × AllByRecursion IsRatePoint points
+AreRatePoints = AreBetween 1 most_rate_points IsRatePoint
 
 -- the opening bands of what a tank or a reactor holds
 abbrev pub AreContents : Interval → Interval → Interval → Interval → Type 0
 AreContents volume flow conc temp = IsWide volume × IsWide flow × IsWide conc × IsWide temp
 
--- what a mixer reads
+-- what a mixer reads: the fewest references, and the most
+abbrev pub fewest_inputs : ℕ
+fewest_inputs = 2
+
+abbrev pub most_inputs : ℕ
+most_inputs = 8
+
 abbrev pub AreInputs : List (List ℕ) → Type 0
-AreInputs inputs = (fewest_inputs ≤ length inputs) × (length inputs ≤ most_inputs) × AllByRecursion IsReference inputs
+AreInputs = AreBetween fewest_inputs most_inputs IsReference
+
+-- the most stages of a column
+abbrev pub most_stages : ℕ
+most_stages = 64
 
 -- what a column starts from
 abbrev pub AreColumnBands : Interval → Interval → Interval → Interval → Interval → Type 0
@@ -135,12 +112,20 @@ IsKindPart (kind.Controller set measured kp ki bias integral_limits integral out
 IsKindPart (kind.Mixer input) = AreInputs input
 IsKindPart (kind.Splitter input share) = IsReference input × Holds ppm share
 
-pub record AreOwnLimits (limits : OwnLimits) : Type 0 where
-  pub flow : IfSome limits.flow IsWide
-  pub conc : IfSome limits.conc IsWide
-  pub temp : IfSome limits.temp IsWide
-  pub volume : IfSome limits.volume IsWide
-  pub signal : IfSome limits.signal IsWide
+-- the value of each quantity meets P
+pub record AllMeet {A : Type 0} (P : A → Type 0) (quantities : Quantities A) : Type 0 where
+  pub flow : P quantities.flow
+  pub conc : P quantities.conc
+  pub temp : P quantities.temp
+  pub volume : P quantities.volume
+  pub signal : P quantities.signal
+
+-- the limits that are a unit's own
+abbrev pub OwnLimits : Type 0
+OwnLimits = Quantities (Option Interval)
+
+abbrev pub AreOwnLimits : OwnLimits → Type 0
+AreOwnLimits limits = AllMeet (λ limit. IfSome limit IsWide) limits
 
 pub record IsUnitPart (unit : UnitPart) : Type 0 where
   pub name : IsName unit.name
@@ -154,6 +139,10 @@ pub record AreWideLimits (limits : Limits) : Type 0 where
   pub volume : IsWide limits.volume
   pub signal : IsWide limits.signal
 
+-- a width that may be asked for
+abbrev pub widths : Interval
+widths = from_to 0 2000000000000
+
 pub record AreWidths (width : Widths) : Type 0 where
   pub flow : IfSome width.flow (Holds widths)
   pub conc : IfSome width.conc (Holds widths)
@@ -161,15 +150,28 @@ pub record AreWidths (width : Widths) : Type 0 where
   pub signal : IfSome width.signal (Holds widths)
 
 -- the feeds and the units, of which there is one at least
+abbrev pub most_feeds : ℕ
+most_feeds = 256
+
 abbrev pub AreFeeds : List FeedPart → Type 0
 AreFeeds feeds = (length feeds ≤ most_feeds) × AllByRecursion IsFeedPart feeds
 
+abbrev pub most_units : ℕ
+most_units = 256
+
 abbrev pub AreUnits : List UnitPart → Type 0
-AreUnits units = (1 ≤ length units) × (length units ≤ most_units) × AllByRecursion IsUnitPart units
+AreUnits = AreBetween 1 most_units IsUnitPart
+
+-- the most ticks of a run and of a window
+abbrev pub most_ticks : ℕ
+most_ticks = 100000
+
+abbrev pub longest_window : ℕ
+longest_window = 64
 
 pub record AreInRange (parts : FileParts) : Type 0 where
-  pub ticks : (1 ≤ parts.ticks) × (parts.ticks ≤ most_ticks)
-  pub window : (1 ≤ parts.window) × (parts.window ≤ longest_window)
+  pub ticks : IsBetween 1 most_ticks parts.ticks
+  pub window : IsBetween 1 longest_window parts.window
   pub limits : AreWideLimits parts.limits
   pub width : AreWidths parts.width
   pub feeds : AreFeeds parts.feeds

@@ -9,6 +9,7 @@ mod units;
 
 pub use feeds::{FeedBand, FeedKind, FeedPart, Piece};
 pub use laws::one_piece_is_in_force;
-pub use lists::{FeedParts, Listed, Pieces, RatePoints, Texts, UnitParts};
+pub use listed::Listed;
+pub use lists::{FeedParts, Pieces, RatePoints, Texts, UnitParts};
 pub use parts::{Parts, Widths};
-pub use units::{KindPart, OwnLimits, UnitPart};
+pub use units::{KindPart, OwnLimits, Quantities, UnitPart};

@@ -2,15 +2,18 @@ use crate::lists::{RatePoints, Texts};
 use plant_names::Text;
 use quant::Band;
 
-/// The limits of a unit that are its own, in place of the plant's.
+/// A value for each quantity that has limits.
 #[derive(Clone, Copy)]
-pub struct OwnLimits {
-    pub flow: Option<Band>,
-    pub conc: Option<Band>,
-    pub temp: Option<Band>,
-    pub volume: Option<Band>,
-    pub signal: Option<Band>,
+pub struct Quantities<T> {
+    pub flow: T,
+    pub conc: T,
+    pub temp: T,
+    pub volume: T,
+    pub signal: T,
 }
+
+/// The limits of a unit that are its own, in place of the plant's.
+pub type OwnLimits = Quantities<Option<Band>>;
 
 /// What a unit is, with its parameters, the streams that it reads, and its states at the first tick.
 ///

@@ -1,18 +1,17 @@
 -- The pieces of feeds that pass their check are in order.
-use Rattle.std.proofs.Common.{◌≡◌, ◌==◌, ℕ, zero, suc, ◌+◌, ◌<◌, ◌≤◌, List, [], ◌∷◌, length, Ok, true, subst, arith}
-use Rattle.std.specs.Prelude.{codes, not, nat_lt}
+use Rattle.std.proofs.Common.{◌≡◌, ◌==◌, ℕ, zero, suc, ◌+◌, ◌<◌, List, [], ◌∷◌, length, Ok, true, subst, arith}
+use Rattle.std.specs.Prelude.{codes, nat_lt}
 use Rattle.std.specs.List.{AllByRecursion}
 use Rattle.parts.specs.Parts.{FileParts}
 use Rattle.parts.specs.InRange.{AreInRange, IsFeedPart, IsFeedKind, IsFeedBand}
-use Rattle.parts.specs.InForce.{AreInOrder, begin_of}
+use Rattle.parts.specs.InForce.{begin_of}
 use Rattle.parts.specs.declared.feeds.FeedBand.{FeedBand}
 use Rattle.parts.specs.declared.feeds.FeedBand.TheVariants as feed_band
 use Rattle.parts.specs.declared.feeds.FeedKind.{FeedKind}
 use Rattle.parts.specs.declared.feeds.FeedKind.TheVariants as feed_kind
 use Rattle.parts.specs.declared.feeds.FeedPart.{FeedPart}
 use Rattle.parts.specs.declared.feeds.Piece.{Piece}
-use Rattle.plant_checks.specs.declared.fault.PlantFault.TheVariants as fault
-use Rattle.plant_checks.specs.Checks.{refuse_if, each, piece_place, begins_well, piece_refused, pieces_check, feed_pieces_check}
+use Rattle.plant_checks.specs.Checks.{each, begins_well, piece_refused, pieces_check, feed_pieces_check}
 use Rattle.plant_checks.proofs.Passed.{ArePassed, passes-both, passes-test}
 use Rattle.plant.specs.Ordered.{IsOrdered, AreOrdered}
 

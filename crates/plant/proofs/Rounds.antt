@@ -17,6 +17,7 @@ use Rattle.plant_streams.specs.declared.streams.StreamSource.{StreamSource}
 use Rattle.plant_streams.specs.Limits.{source_at, limits_at}
 use Rattle.plant_streams.specs.declared.streams.StreamSource.TheVariants as source
 use Rattle.plant_streams.specs.Streams.{streams_of}
+use Rattle.topology.proofs.Maxima.{fold_start, value_at}
 use Rattle.plant_units.specs.Steps.{bands_at}
 use Rattle.plant_units.specs.declared.units.Unit.{Unit}
 use Rattle.plant_units.specs.Units.{units_of, sheet_unit, gives_of, output_limits_of}
@@ -200,17 +201,6 @@ unfolding plant_of
 rank-port parts s u p e = rank-is parts s (source.Port u p) e
 
 -- what an instant unit reads has lesser rank
-fold_start : (a : ℕ) (xs : List ℕ) → a ≤ fold max a xs
-fold_start a [] = omega arith
-fold_start a (x ∷ xs) = let h : max a x ≤ fold max (max a x) xs = fold_start (max a x) xs in omega arith
-
-fold_value : (f : ℕ → ℕ) (a : ℕ) (xs : List ℕ) (k d : ℕ) → k < length xs →
-    f (slice_index_or xs k d) ≤ fold max a (map f xs)
-fold_value f a [] k d h = absurd (omega arith)
-fold_value f a (x ∷ xs) zero d h = let g : max a (f x) ≤ fold max (max a (f x)) (map f xs) =
-    fold_start (max a (f x)) (map f xs) in omega arith
-fold_value f a (x ∷ xs) (suc k) d h = fold_value f (max a (f x)) xs k d (omega arith)
-
 fold_index : (a : ℕ) (xs : List ℕ) (k : ℕ) → slice_index xs k ≤ fold max a xs
 fold_index a [] k = omega arith
 fold_index a (x ∷ xs) zero = let h : max a x ≤ fold max (max a x) xs = fold_start (max a x) xs in omega arith
@@ -223,7 +213,7 @@ reads-below parts n q ranked h i c =
     let plant = plant_of parts in
     let reads : List ℕ = (sheet.unit_at plant n).reads in
     let most : sheet.rank_of plant (slice_index_or reads c.0 q) ≤ fold max 0 (map (sheet.rank_of plant) reads) =
-    fold_value (sheet.rank_of plant) 0 reads c.0 q c.1 in
+    value_at (sheet.rank_of plant) 0 reads c.0 q c.1 in
     let same : sheet.rank_of plant (slice_index_or reads c.0 q) ≡ sheet.rank_of plant q =
     ap (sheet.rank_of plant) c.2 in
     omega (arith, ranked.instants n (omega (arith, units-counted parts)) i)

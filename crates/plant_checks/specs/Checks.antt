@@ -24,7 +24,7 @@ use Rattle.plant_checks.specs.declared.fault.PlantFault.{PlantFault}
 use Rattle.plant_checks.specs.declared.fault.Unbuilt.{Unbuilt}
 use Rattle.plant_checks.specs.declared.fault.Unbuilt.TheVariants as unbuilt
 use Rattle.plant_checks.specs.declared.fault.PlantFault.TheVariants as fault
-use Rattle.plant_checks.specs.Openings.{Opening, openings_of}
+use Rattle.plant_checks.specs.Openings.{Keyed, keyed, Opening, openings_of}
 
 -- what checks answer: nothing, or the first refusal
 abbrev pub Checked : Type 0
@@ -124,20 +124,15 @@ unfoldable pub opening_check : Limits → ℕ → UnitPart → Checked
 opening_check limits u unit =
     each (λ i opening. opening_refused u opening) 0 (openings_of (limits_in limits unit.limits) unit.kind)
 
--- a feed's channels: the key, the band, and the plant's limit
-pub record Channel : Type 0 where
-  pub key : List ℕ
-  pub band : FeedBand
-  pub limits : Interval
-
-abbrev pub channel : List ℕ → FeedBand → Interval → Channel
-channel key band limits = record { key = key; band = band; limits = limits }
+-- a feed's channels, each under the plant's limits
+abbrev pub Channel : Type 0
+Channel = Keyed FeedBand
 
 unfoldable pub channels_of : Limits → FeedKind → List Channel
 channels_of limits (feed_kind.Material flow conc temp) =
-    channel (codes "flow") flow limits.flow ∷ channel (codes "conc") conc limits.conc
-    ∷ channel (codes "temp") temp limits.temp ∷ []
-channels_of limits (feed_kind.Signal value) = channel (codes "value") value limits.signal ∷ []
+    keyed (codes "flow") flow limits.flow ∷ keyed (codes "conc") conc limits.conc
+    ∷ keyed (codes "temp") temp limits.temp ∷ []
+channels_of limits (feed_kind.Signal value) = keyed (codes "value") value limits.signal ∷ []
 
 -- the first piece begins at tick 0, and each other one after the one before
 abbrev pub begins_well : List Piece → ℕ → ℕ → Bool

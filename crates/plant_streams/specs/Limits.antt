@@ -3,7 +3,7 @@ use Rattle.std.specs.Prelude.{ℕ, pos, Bool, List, [], ◌∷◌, map, unwrap_o
 use Rattle.quant.specs.Interval.{Interval, point}
 use Rattle.quant.specs.declared.limits.Limits.{Limits}
 use Rattle.parts.specs.Parts.{FileParts}
-use Rattle.parts.specs.declared.units.OwnLimits.{OwnLimits}
+use Rattle.parts.specs.InRange.{OwnLimits}
 use Rattle.plant_streams.specs.declared.streams.Stream.{Stream}
 use Rattle.plant_streams.specs.declared.streams.StreamSource.{StreamSource}
 use Rattle.plant_streams.specs.declared.streams.StreamSource.TheVariants as source

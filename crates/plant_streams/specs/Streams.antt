@@ -73,11 +73,14 @@ pub record Reference : Type 0 where
   pub name : List ℕ
   pub signal : Bool
 
+abbrev pub needs : Bool → List ℕ → List ℕ → Reference
+needs signal key name = record { key = key; name = name; signal = signal }
+
 abbrev pub needs_material : List ℕ → List ℕ → Reference
-needs_material key name = record { key = key; name = name; signal = false }
+needs_material = needs false
 
 abbrev pub needs_signal : List ℕ → List ℕ → Reference
-needs_signal key name = record { key = key; name = name; signal = true }
+needs_signal = needs true
 
 -- the inputs of a mixer from number i on
 abbrev pub mixer_references : ℕ → List (List ℕ) → List Reference

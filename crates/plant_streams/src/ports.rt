@@ -1,7 +1,7 @@
 //! What a unit reads and gives, in the order of its ports.
 
 ghost use Rattle.std.specs.Prelude.{◌≡◌, ◌≤◌, map, length, IfOk};
-ghost use Rattle.plant_streams.specs.Streams.{ports_of, needs_material, needs_signal, mixer_references, references_of};
+ghost use Rattle.plant_streams.specs.Streams.{ports_of, needs, needs_material, needs_signal, mixer_references, references_of};
 ghost use Rattle.plant_streams.specs.Seen.{port_seen, reference_seen};
 
 use parts::KindPart;
@@ -66,26 +66,28 @@ pub struct Reference<'a> {
     pub signal: bool,
 }
 
-fn material<'a>(key: &'static str, name: &'a Text) -> Reference<'a>
-    ensures { reference_seen result ≡ needs_material key.now name.now }
+/// What names the stream at a key, where a signal is needed or a material stream.
+fn needs<'a>(signal: bool, key: &'static str, name: &'a Text) -> Reference<'a>
+    ensures { reference_seen result ≡ needs signal key.now name.now }
 {
     Reference {
         key,
         index: None,
         name: name.as_bytes(),
-        signal: false,
+        signal,
     }
+}
+
+fn material<'a>(key: &'static str, name: &'a Text) -> Reference<'a>
+    ensures { reference_seen result ≡ needs_material key.now name.now }
+{
+    needs(false, key, name)
 }
 
 fn signal<'a>(key: &'static str, name: &'a Text) -> Reference<'a>
     ensures { reference_seen result ≡ needs_signal key.now name.now }
 {
-    Reference {
-        key,
-        index: None,
-        name: name.as_bytes(),
-        signal: true,
-    }
+    needs(true, key, name)
 }
 
 /// The inputs of a mixer.

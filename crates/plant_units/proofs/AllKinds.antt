@@ -1,6 +1,6 @@
 -- What all kinds of units have in common, seen one kind after another.
 use Rattle.std.proofs.Common.{◌≡◌, ℕ, ◌-◌, pos, List, subst, ◌+◌, refl, zero, suc, [], arith, ◌∷◌, sym, ◌*◌, length}
-use Rattle.std.proofs.Common.{◌≤◌, map, ap, ◌∙◌, ◌<◌, true, false}
+use Rattle.std.proofs.Common.{◌≤◌, map, ap, ◌∙◌, ◌<◌, false}
 use Rattle.std.specs.Prelude.{slice_index_or, if◌then◌else◌}
 use Rattle.std.proofs.lemmas.List.{length-map, length-append}
 use Rattle.std.proofs.lemmas.List.FromFn.{length-range_with_len}
@@ -46,76 +46,76 @@ pub shown-inside : (x : Unit) (p : ℕ) (state ins : List Interval) → IsUnitSo
     AllInside state (state_limits_of x) →
     AllInside (shown (interval Floor) (sheet_unit x) p state ins) (slice_index_or (output_limits_of x) p [])
 unfolding sheet_unit
-shown-inside (unit.Tank name tank inputs outputs opening) zero state ins sound inside =
+shown-inside (unit.Tank tank ends) zero state ins sound inside =
     let at : (n : ℕ) →
     IsInside (slice_index_or state n (point (pos 0))) (slice_index_or (tanks.state_limits tank) n (point (pos 0))) =
     λ n. place-inside state (tanks.state_limits tank) n inside in
     (at 1, (at 2, (at 3, tt)))
-shown-inside (unit.Tank name tank inputs outputs opening) (suc zero) state ins sound inside =
+shown-inside (unit.Tank tank ends) (suc zero) state ins sound inside =
     (clamped-inside tank.limits.signal _ sound.limits.signal.0, tt)
-shown-inside (unit.Tank name tank inputs outputs opening) (suc (suc p)) state ins sound inside = tt
-shown-inside (unit.Reactor name reactor inputs outputs opening) zero state ins sound inside =
+shown-inside (unit.Tank tank ends) (suc (suc p)) state ins sound inside = tt
+shown-inside (unit.Reactor reactor ends) zero state ins sound inside =
     let at : (n : ℕ) →
     IsInside (slice_index_or state n (point (pos 0)))
     (slice_index_or (reactors.state_limits reactor) n (point (pos 0))) =
     λ n. place-inside state (reactors.state_limits reactor) n inside in
     (at 1, (at 2, (at 3, tt)))
-shown-inside (unit.Reactor name reactor inputs outputs opening) (suc zero) state ins sound inside =
+shown-inside (unit.Reactor reactor ends) (suc zero) state ins sound inside =
     (clamped-inside reactor.limits.signal _ sound.limits.signal.0, tt)
-shown-inside (unit.Reactor name reactor inputs outputs opening) (suc (suc zero)) state ins sound inside =
+shown-inside (unit.Reactor reactor ends) (suc (suc zero)) state ins sound inside =
     (clamped-inside reactor.limits.signal _ sound.limits.signal.0, tt)
-shown-inside (unit.Reactor name reactor inputs outputs opening) (suc (suc (suc p))) state ins sound inside = tt
-shown-inside (unit.Column name column inputs outputs opening) zero state ins sound inside =
+shown-inside (unit.Reactor reactor ends) (suc (suc (suc p))) state ins sound inside = tt
+shown-inside (unit.Column column ends) zero state ins sound inside =
     let last = column_laws.stage-limits column (column.stages - 1) (omega (arith, sound.some)) in (
       placed column state column.stages column.limits.flow inside
           (column_laws.register-limits column 0 column.stages (omega arith)),
       (placed column state (column.stages - 1) column.limits.conc inside last, (registered column state 1 inside, tt)),
     )
-shown-inside (unit.Column name column inputs outputs opening) (suc zero) state ins sound inside = (
+shown-inside (unit.Column column ends) (suc zero) state ins sound inside = (
   registered column state 2 inside,
   (clamped-inside column.limits.conc _ sound.limits.conc.0, (registered column state 3 inside, tt)),
 )
-shown-inside (unit.Column name column inputs outputs opening) (suc (suc p)) state ins sound inside = tt
-shown-inside (unit.Controller name controller inputs outputs opening) zero state ins sound inside =
+shown-inside (unit.Column column ends) (suc (suc p)) state ins sound inside = tt
+shown-inside (unit.Controller controller ends) zero state ins sound inside =
     (place-inside state (controllers.state_limits controller) 1 inside, tt)
-shown-inside (unit.Controller name controller inputs outputs opening) (suc p) state ins sound inside = tt
-shown-inside (unit.Mixer name mixer inputs outputs opening) zero state ins sound inside = (
+shown-inside (unit.Controller controller ends) (suc p) state ins sound inside = tt
+shown-inside (unit.Mixer mixer ends) zero state ins sound inside = (
   clamped-inside mixer.limits.flow _ sound.limits.flow.0,
   (
     clamped-inside mixer.limits.conc _ sound.limits.conc.0,
     (clamped-inside mixer.limits.temp _ sound.limits.temp.0, tt),
   ),
 )
-shown-inside (unit.Mixer name mixer inputs outputs opening) (suc p) state ins sound inside = tt
-shown-inside (unit.Splitter name splitter inputs outputs opening) zero state ins sound inside = (
+shown-inside (unit.Mixer mixer ends) (suc p) state ins sound inside = tt
+shown-inside (unit.Splitter splitter ends) zero state ins sound inside = (
   clamped-inside splitter.limits.flow _ sound.limits.flow.0,
   (
     clamped-inside splitter.limits.conc _ sound.limits.conc.0,
     (clamped-inside splitter.limits.temp _ sound.limits.temp.0, tt),
   ),
 )
-shown-inside (unit.Splitter name splitter inputs outputs opening) (suc zero) state ins sound inside = (
+shown-inside (unit.Splitter splitter ends) (suc zero) state ins sound inside = (
   clamped-inside splitter.limits.flow _ sound.limits.flow.0,
   (
     clamped-inside splitter.limits.conc _ sound.limits.conc.0,
     (clamped-inside splitter.limits.temp _ sound.limits.temp.0, tt),
   ),
 )
-shown-inside (unit.Splitter name splitter inputs outputs opening) (suc (suc p)) state ins sound inside = tt
+shown-inside (unit.Splitter splitter ends) (suc (suc p)) state ins sound inside = tt
 
 -- what it steps to lies in the limits of its states
 pub steps-inside : (x : Unit) (state ins : List Interval) → IsUnitSound x →
     AllInside (steps x state ins) (state_limits_of x)
 unfolding steps
-steps-inside (unit.Tank name tank inputs outputs opening) state ins sound = tank_laws.next-limited tank state ins sound
-steps-inside (unit.Reactor name reactor inputs outputs opening) state ins sound =
+steps-inside (unit.Tank tank ends) state ins sound = tank_laws.next-limited tank state ins sound
+steps-inside (unit.Reactor reactor ends) state ins sound =
     reactor_laws.next-limited reactor state ins sound
-steps-inside (unit.Column name column inputs outputs opening) state ins sound =
+steps-inside (unit.Column column ends) state ins sound =
     column_laws.next-limited column state ins sound
-steps-inside (unit.Controller name controller inputs outputs opening) state ins sound =
+steps-inside (unit.Controller controller ends) state ins sound =
     controller_laws.next-limited controller state ins sound
-steps-inside (unit.Mixer name mixer inputs outputs opening) state ins sound = tt
-steps-inside (unit.Splitter name splitter inputs outputs opening) state ins sound = tt
+steps-inside (unit.Mixer mixer ends) state ins sound = tt
+steps-inside (unit.Splitter splitter ends) state ins sound = tt
 
 -- no bands lie in no limits but none
 pub none_inside : (As : List Interval) → AllInside As [] → As ≡ []
@@ -125,12 +125,12 @@ none_inside (A ∷ As) h = absurd h
 -- a unit that holds nothing back has no states
 pub states-read : (x : Unit) (state : List Interval) → AllInside state (state_limits_of x) →
     (if is_instant x then [] else state) ≡ state
-states-read (unit.Tank name tank inputs outputs opening) state inside = refl
-states-read (unit.Reactor name reactor inputs outputs opening) state inside = refl
-states-read (unit.Column name column inputs outputs opening) state inside = refl
-states-read (unit.Controller name controller inputs outputs opening) state inside = refl
-states-read (unit.Mixer name mixer inputs outputs opening) state inside = sym (none_inside state inside)
-states-read (unit.Splitter name splitter inputs outputs opening) state inside = sym (none_inside state inside)
+states-read (unit.Tank tank ends) state inside = refl
+states-read (unit.Reactor reactor ends) state inside = refl
+states-read (unit.Column column ends) state inside = refl
+states-read (unit.Controller controller ends) state inside = refl
+states-read (unit.Mixer mixer ends) state inside = sym (none_inside state inside)
+states-read (unit.Splitter splitter ends) state inside = sym (none_inside state inside)
 
 -- the channels that a mixer reads
 streams-length : (n : ℕ) → length (mixers.streams n) ≡ 3 * n
@@ -154,17 +154,17 @@ column_states column =
 -- a unit has few states
 pub states-few : (x : Unit) (state : List Interval) → IsUnitSound x → AllInside state (state_limits_of x) →
     length state ≤ 68
-states-few (unit.Tank name tank inputs outputs opening) state sound inside =
+states-few (unit.Tank tank ends) state sound inside =
     omega (arith, inside-length state (tanks.state_limits tank) inside)
-states-few (unit.Reactor name reactor inputs outputs opening) state sound inside =
+states-few (unit.Reactor reactor ends) state sound inside =
     omega (arith, inside-length state (reactors.state_limits reactor) inside)
-states-few (unit.Column name column inputs outputs opening) state sound inside =
+states-few (unit.Column column ends) state sound inside =
     omega (arith, inside-length state (columns.state_limits column) inside, column_states column, sound.few)
-states-few (unit.Controller name controller inputs outputs opening) state sound inside =
+states-few (unit.Controller controller ends) state sound inside =
     omega (arith, inside-length state (controllers.state_limits controller) inside)
-states-few (unit.Mixer name mixer inputs outputs opening) state sound inside =
+states-few (unit.Mixer mixer ends) state sound inside =
     omega (arith, inside-length state [] inside)
-states-few (unit.Splitter name splitter inputs outputs opening) state sound inside =
+states-few (unit.Splitter splitter ends) state sound inside =
     omega (arith, inside-length state [] inside)
 
 -- a unit that holds something back shows the same whatever its inputs are
@@ -176,17 +176,17 @@ views-held x state ins others e = rw e refl
 -- where there is a state, there are few inputs
 pub inputs-few : (x : Unit) (state ins : List Interval) → AllInside state (state_limits_of x) → MayTake x ins →
     0 < length state → length ins ≤ 6
-inputs-few (unit.Tank name tank inputs outputs opening) state ins inside takes h =
+inputs-few (unit.Tank tank ends) state ins inside takes h =
     omega (arith, inside-length ins tanks.input_limits takes)
-inputs-few (unit.Reactor name reactor inputs outputs opening) state ins inside takes h =
+inputs-few (unit.Reactor reactor ends) state ins inside takes h =
     omega (arith, inside-length ins reactors.input_limits takes)
-inputs-few (unit.Column name column inputs outputs opening) state ins inside takes h =
+inputs-few (unit.Column column ends) state ins inside takes h =
     omega (arith, inside-length ins columns.input_limits takes.held)
-inputs-few (unit.Controller name controller inputs outputs opening) state ins inside takes h =
+inputs-few (unit.Controller controller ends) state ins inside takes h =
     omega (arith, inside-length ins controllers.input_limits takes)
-inputs-few (unit.Mixer name mixer inputs outputs opening) state ins inside takes h =
+inputs-few (unit.Mixer mixer ends) state ins inside takes h =
     absurd (omega (arith, inside-length state [] inside))
-inputs-few (unit.Splitter name splitter inputs outputs opening) state ins inside takes h =
+inputs-few (unit.Splitter splitter ends) state ins inside takes h =
     absurd (omega (arith, inside-length state [] inside))
 
 none-here : (As : List Interval) → length As ≡ 0 → [] ≡ As
@@ -207,26 +207,26 @@ steps-none x (A ∷ state) ins sound inside h = absurd (omega (arith, h))
 
 -- no unit has many inputs
 pub takes-few : (x : Unit) (ins : List Interval) → IsUnitSound x → MayTake x ins → length ins ≤ 24
-takes-few (unit.Tank name tank inputs outputs opening) ins sound takes =
+takes-few (unit.Tank tank ends) ins sound takes =
     omega (arith, inside-length ins tanks.input_limits takes)
-takes-few (unit.Reactor name reactor inputs outputs opening) ins sound takes =
+takes-few (unit.Reactor reactor ends) ins sound takes =
     omega (arith, inside-length ins reactors.input_limits takes)
-takes-few (unit.Column name column inputs outputs opening) ins sound takes =
+takes-few (unit.Column column ends) ins sound takes =
     omega (arith, inside-length ins columns.input_limits takes.held)
-takes-few (unit.Controller name controller inputs outputs opening) ins sound takes =
+takes-few (unit.Controller controller ends) ins sound takes =
     omega (arith, inside-length ins controllers.input_limits takes)
-takes-few (unit.Mixer name mixer inputs outputs opening) ins sound takes = mixer-few mixer.inputs ins sound.few takes
-takes-few (unit.Splitter name splitter inputs outputs opening) ins sound takes =
+takes-few (unit.Mixer mixer ends) ins sound takes = mixer-few mixer.inputs ins sound.few takes
+takes-few (unit.Splitter splitter ends) ins sound takes =
     omega (arith, inside-length ins splitters.input_limits takes)
 
 -- it has as many outputs as limits for them
 pub ports-alike : (x : Unit) → length (view_of x) ≡ length (output_limits_of x)
-ports-alike (unit.Tank name tank inputs outputs opening) = refl
-ports-alike (unit.Reactor name reactor inputs outputs opening) = refl
-ports-alike (unit.Column name column inputs outputs opening) = refl
-ports-alike (unit.Controller name controller inputs outputs opening) = refl
-ports-alike (unit.Mixer name mixer inputs outputs opening) = refl
-ports-alike (unit.Splitter name splitter inputs outputs opening) = refl
+ports-alike (unit.Tank tank ends) = refl
+ports-alike (unit.Reactor reactor ends) = refl
+ports-alike (unit.Column column ends) = refl
+ports-alike (unit.Controller controller ends) = refl
+ports-alike (unit.Mixer mixer ends) = refl
+ports-alike (unit.Splitter splitter ends) = refl
 
 -- it keeps its limits
 pub unit-keeps : (x : Unit) → IsUnitSound x → KeepsLimits Floor (sheet_unit x)

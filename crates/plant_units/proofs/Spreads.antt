@@ -7,11 +7,11 @@ use Rattle.std.proofs.lemmas.List.{drop_more, append_assoc, length-take-le}
 use Rattle.std.proofs.lemmas.Slice.{take-put_mid}
 use Rattle.std.proofs.lemmas.Bool.{cases_eq}
 use Rattle.std.proofs.lemmas.Grind.{get_or-set_at}
-use Rattle.std.specs.Prelude.{slice_index, slice_index_or}
+use Rattle.std.specs.Prelude.{slice_index, slice_index_or, flat_map}
 use borrow.Rule.Slice.PartMut.{put_mid}
 use Rattle.quant.specs.Interval.{Interval}
 use Rattle.quant.specs.Ports.{outputs}
-use Rattle.plant_units.specs.Steps.{spread, HasRoom, gathered, bands_at}
+use Rattle.plant_units.specs.Steps.{spread, HasRoom, bands_at}
 
 -- what is left to spread gives what all of it gives
 pub record IsSpreading (numbers : List ℕ) (whole : List (List Interval)) (i : ℕ) (rest : List Interval)
@@ -19,40 +19,37 @@ pub record IsSpreading (numbers : List ℕ) (whole : List (List Interval)) (i : 
   pub room : HasRoom (drop i numbers) rest now
   pub same : spread (drop i numbers) rest now ≡ whole
 
--- what is gathered already, and what is left to gather
-pub record IsGathering (numbers : List ℕ) (streams : List (List Interval)) (i place : ℕ)
+-- what is gathered already of the bands of things that meet P, and what is left to gather
+pub record IsGathering {X : Type 0} (P : X → Type 0) (bands : X → List Interval) (xs : List X) (i place : ℕ)
     (ins : List Interval) : Type 0 where
-  pub known : AllByRecursion (λ s. s < length streams) (drop i numbers)
-  pub room : place + length (gathered (drop i numbers) streams) ≤ length ins
-  pub same : take place ins ++ gathered (drop i numbers) streams ≡ gathered numbers streams
+  pub known : AllByRecursion P (drop i xs)
+  pub room : place + length (flat_map bands (drop i xs)) ≤ length ins
+  pub same : take place ins ++ flat_map bands (drop i xs) ≡ flat_map bands xs
 
--- the next stream is there
-pub gathering-known : (numbers : List ℕ) (streams : List (List Interval)) (i place : ℕ) (ins : List Interval) →
-    i < length numbers → IsGathering numbers streams i place ins → get_or numbers i 0 < length streams
-gathering-known numbers streams i place ins h g =
-    (subst (λ (ns : List ℕ). AllByRecursion (λ s. s < length streams) ns) (drop_more numbers i 0 h) g.known).0
+-- the next thing meets P
+pub gathering-known : {X : Type 0} (P : X → Type 0) (bands : X → List Interval) (xs : List X) (d : X) (i place : ℕ)
+    (ins : List Interval) →
+    i < length xs → IsGathering P bands xs i place ins → P (get_or xs i d)
+gathering-known P bands xs d i place ins h g = (subst (AllByRecursion P) (drop_more xs i d h) g.known).0
 
--- the next stream's channels are written behind what is gathered
-pub gathering-more : (numbers : List ℕ) (streams : List (List Interval)) (i place k : ℕ)
+-- its bands are written behind what is gathered
+pub gathering-more : {X : Type 0} (P : X → Type 0) (bands : X → List Interval) (xs : List X) (d : X) (i place k : ℕ)
     (ins channels : List Interval) →
-    i < length numbers → IsGathering numbers streams i place ins → channels ≡ bands_at streams (get_or numbers i 0) →
-    k ≡ length channels →
-    IsGathering numbers streams (i + 1) (place + length channels) (put_mid place k ins channels)
-gathering-more numbers streams i place k ins channels h g e d =
-    let known =
-    subst (λ (ns : List ℕ). AllByRecursion (λ s. s < length streams) ns) (drop_more numbers i 0 h) g.known in
-    let more : gathered (drop i numbers) streams ≡ channels ++ gathered (drop (i + 1) numbers) streams =
-    ap (λ ns. gathered ns streams) (drop_more numbers i 0 h)
-    ∙ ap (λ cs. cs ++ gathered (drop (i + 1) numbers) streams) (sym e) in
-    let lengths = ap length more ∙ length-append channels (gathered (drop (i + 1) numbers) streams) in
+    i < length xs → IsGathering P bands xs i place ins → channels ≡ bands (get_or xs i d) → k ≡ length channels →
+    IsGathering P bands xs (i + 1) (place + length channels) (put_mid place k ins channels)
+gathering-more P bands xs d i place k ins channels h g e l =
+    let known = subst (AllByRecursion P) (drop_more xs i d h) g.known in
+    let more : flat_map bands (drop i xs) ≡ channels ++ flat_map bands (drop (i + 1) xs) =
+    ap (flat_map bands) (drop_more xs i d h) ∙ ap (λ cs. cs ++ flat_map bands (drop (i + 1) xs)) (sym e) in
+    let lengths = ap length more ∙ length-append channels (flat_map bands (drop (i + 1) xs)) in
     let written : take (place + length channels) (put_mid place k ins channels) ≡ take place ins ++ channels =
     take-put_mid place k ins channels (place + length channels) refl (omega (arith, g.room)) in
     record {
       known = known.1;
       room = simp (length-append, length-take-le place ins (omega (arith, g.room)), length-drop)
           (omega (arith, g.room, lengths));
-      same = ap (λ cs. cs ++ gathered (drop (i + 1) numbers) streams) written
-          ∙ (append_assoc (take place ins) channels (gathered (drop (i + 1) numbers) streams)
+      same = ap (λ cs. cs ++ flat_map bands (drop (i + 1) xs)) written
+          ∙ (append_assoc (take place ins) channels (flat_map bands (drop (i + 1) xs))
           ∙ (ap (λ cs. take place ins ++ cs) (sym more) ∙ g.same));
     }
 

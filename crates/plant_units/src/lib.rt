@@ -6,4 +6,4 @@ mod steps;
 mod units;
 
 pub use made_units::units_of;
-pub use units::{Bands, StreamNumbers, Unit};
+pub use units::{Bands, Ends, StreamNumbers, Unit};

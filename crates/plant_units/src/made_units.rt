@@ -4,10 +4,9 @@ ghost use Rattle.std.specs.Prelude.{◌≡◌, ◌≤◌, ◌++◌, length, repl
 ghost use Rattle.std.specs.List.{range_with_len};
 ghost use Rattle.quant.specs.Table.{IsTable};
 ghost use Rattle.plant_streams.specs.Streams.{number_of, ports_of, streams_of};
-ghost use Rattle.plant_units.specs.Units.{inputs_of, made_unit, unit_from, units_of, IsMakeable};
-ghost use Rattle.plant_units.specs.Seen.{bands_seen};
+ghost use Rattle.plant_units.specs.Units.{inputs_of, opening_bands, made_unit, unit_from, units_of, IsMakeable};
 
-use crate::units::{Bands, StreamNumbers, Unit};
+use crate::units::{Bands, Ends, StreamNumbers, Unit};
 use basic_units::{Mixer, Reactor, Splitter, Tank};
 use column_section::Column;
 use controllers::Controller;
@@ -80,7 +79,7 @@ fn column_bands(
 
 /// The bands of a unit's states at the first tick.
 fn bands_of(alloc: Global, kind: &KindPart) -> Result<Bands, AllocError>
-    ensures { IfOk result (λ bands. bands ≡ bands_seen kind.now) }
+    ensures { IfOk result (λ bands. bands ≡ opening_bands kind.now) }
 {
     match kind {
         KindPart::Tank {
@@ -127,104 +126,78 @@ fn rate_table(alloc: Global, points: &[(i64, i64)]) -> Result<RateTable, AllocEr
     Ok(table.unwrap())
 }
 
-/// What each unit has: its name, the numbers of its streams, and the bands of its states at the first tick.
-#[derive(Debug, Drop)]
-struct Ends {
-    name: Text,
-    inputs: StreamNumbers,
-    outputs: StreamNumbers,
-    opening: Bands,
-}
-
-/// A unit of a kind, with what each unit has.
-macro_rules! with_ends {
-    ($ends:expr, $kind:ident { $($fields:tt)* }) => {{
-        let unit = $kind { $($fields)* };
-        let Ends {
-            name,
-            inputs,
-            outputs,
-            opening,
-        } = $ends;
-        Unit::$kind {
-            name,
-            unit,
-            inputs,
-            outputs,
-            opening,
-        }
-    }};
-}
-
 /// A unit of this kind, with these limits.
 #[tactic(auto, unfolding(crate::specs::Units::made_unit))]
 fn made_unit(alloc: Global, ends: Ends, limits: Limits, kind: &KindPart) -> Result<Unit, AllocError>
     requires makeable { IsMakeable kind.now }
-    requires opening { ends.opening ≡ bands_seen kind.now }
+    requires opening { ends.opening ≡ opening_bands kind.now }
     ensures { IfOk result (λ unit. unit ≡ made_unit ends.name limits ends.inputs ends.outputs kind.now) }
 {
     Ok(match kind {
-        KindPart::Tank { k, .. } => with_ends!(ends, Tank { k: *k, limits }),
+        KindPart::Tank { k, .. } => {
+            let unit = Tank { k: *k, limits };
+            Unit::Tank { unit, ends }
+        }
         KindPart::Reactor {
             k,
             rate,
             heat,
             ua,
             ..
-        } => with_ends!(
-            ends,
-            Reactor {
+        } => {
+            let unit = Reactor {
                 k: *k,
                 rate: rate_table(alloc, rate.as_slice())?,
                 heat: *heat,
                 ua: *ua,
                 limits,
-            }
-        ),
+            };
+            Unit::Reactor { unit, ends }
+        }
         KindPart::Column {
             stages,
             holdup,
             slope,
             ..
-        } => with_ends!(
-            ends,
-            Column {
+        } => {
+            let unit = Column {
                 stages: *stages,
                 holdup: *holdup,
                 slope: *slope,
                 limits,
-            }
-        ),
+            };
+            Unit::Column { unit, ends }
+        }
         KindPart::Controller {
             kp,
             ki,
             bias,
             integral_limits,
             ..
-        } => with_ends!(
-            ends,
-            Controller {
+        } => {
+            let unit = Controller {
                 kp: *kp,
                 ki: *ki,
                 bias: *bias,
                 integral_limits: *integral_limits,
                 limits,
-            }
-        ),
-        KindPart::Mixer { input } => with_ends!(
-            ends,
-            Mixer {
+            };
+            Unit::Controller { unit, ends }
+        }
+        KindPart::Mixer { input } => {
+            let unit = Mixer {
                 inputs: input.as_slice().len() as u32,
                 limits,
-            }
-        ),
-        KindPart::Splitter { share, .. } => with_ends!(
-            ends,
-            Splitter {
+            };
+            Unit::Mixer { unit, ends }
+        }
+        KindPart::Splitter { share, .. } => {
+            let unit = Splitter {
                 share: *share,
                 limits,
-            }
-        ),
+            };
+            Unit::Splitter { unit, ends }
+        }
     })
 }
 

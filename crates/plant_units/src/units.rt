@@ -1,173 +1,60 @@
 use basic_units::{Mixer, Reactor, Splitter, Tank};
 use column_section::Column;
 use controllers::Controller;
+use listed::Listed;
 use plant_names::Text;
 use quant::Band;
-use std::alloc::{AllocError, Global};
-use std::marker::Model;
 
 /// The numbers of streams.
-#[derive(Debug, Drop)]
-pub struct StreamNumbers {
-    items: Vec<u32>,
-}
-
-impl Model for StreamNumbers {
-    ghost use Rattle.std.specs.Prelude.{List, ℕ};
-
-    ghost Value = { List ℕ };
-
-    ghost view = { λ l. l.items.items };
-}
-
-impl StreamNumbers {
-    ghost use Rattle.std.specs.Prelude.{◌≡◌};
-
-    pub fn new(items: Vec<u32>) -> Self
-        ensures { result ≡ items.items }
-    {
-        StreamNumbers { items }
-    }
-
-    pub fn as_slice(&self) -> &[u32]
-        ensures { result.now ≡ self.now }
-    {
-        self.items.as_slice()
-    }
-
-    /// Gives the vector back.
-    pub fn into_vec(self) -> Vec<u32>
-        ensures { result.items ≡ self }
-    {
-        self.items
-    }
-}
+pub type StreamNumbers = Listed<u32>;
 
 /// Bands, one for each state of a unit or each channel of a stream.
-#[derive(Debug, Drop)]
-pub struct Bands {
-    items: Vec<Band>,
-}
+pub type Bands = Listed<Band>;
 
-impl Model for Bands {
-    ghost use Rattle.std.specs.Prelude.{List};
-    ghost use Rattle.quant.specs.Interval.{Interval};
-
-    ghost Value = { List Interval };
-
-    ghost view = { λ l. l.items.items };
-}
-
-impl Bands {
-    ghost use Rattle.std.specs.Prelude.{◌≡◌, ◌<◌, length, slice_set, IfOk};
-
-    pub fn new(items: Vec<Band>) -> Self
-        ensures { result ≡ items.items }
-    {
-        Bands { items }
-    }
-
-    /// A copy of these bands.
-    pub fn from_slice(alloc: Global, bands: &[Band]) -> Result<Self, AllocError>
-        ensures { IfOk result (λ made. made ≡ bands.now) }
-    {
-        Ok(Bands::new(Vec::from_slice(alloc, bands)?))
-    }
-
-    pub fn as_slice(&self) -> &[Band]
-        ensures { result.now ≡ self.now }
-    {
-        self.items.as_slice()
-    }
-
-    /// Gives the vector back.
-    pub fn into_vec(self) -> Vec<Band>
-        ensures { result.items ≡ self }
-    {
-        self.items
-    }
-
-    /// Puts another band in one place.
-    pub fn set(&mut self, place: usize, band: Band)
-        requires { place < length self.old }
-        ensures { self.new ≡ slice_set self.old place band }
-    {
-        self.items[place] = band;
-    }
-
-    /// Puts as many other bands in the place of these.
-    pub fn write(&mut self, bands: &[Band])
-        requires { length bands.now ≡ length self.old }
-        ensures { self.new ≡ bands.now }
-    {
-        self.items.copy_from_slice(bands);
-    }
-}
-
-/// A unit: its parameters, the numbers of the streams that it reads and gives in the order of its ports, and the band of
+/// What each unit has: its name, the numbers of the streams that it reads and gives in the order of its ports, and the band of
 /// each of its states at the first tick.
-#[derive(Debug, Drop)]
+#[derive(Drop)]
+pub struct Ends {
+    pub name: Text,
+    pub inputs: StreamNumbers,
+    pub outputs: StreamNumbers,
+    pub opening: Bands,
+}
+
+/// A unit: its parameters, and what each unit has.
+#[derive(Drop)]
 pub enum Unit {
-    Tank {
-        name: Text,
-        unit: Tank,
-        inputs: StreamNumbers,
-        outputs: StreamNumbers,
-        opening: Bands,
-    },
-    Reactor {
-        name: Text,
-        unit: Reactor,
-        inputs: StreamNumbers,
-        outputs: StreamNumbers,
-        opening: Bands,
-    },
-    Column {
-        name: Text,
-        unit: Column,
-        inputs: StreamNumbers,
-        outputs: StreamNumbers,
-        opening: Bands,
-    },
-    Controller {
-        name: Text,
-        unit: Controller,
-        inputs: StreamNumbers,
-        outputs: StreamNumbers,
-        opening: Bands,
-    },
-    Mixer {
-        name: Text,
-        unit: Mixer,
-        inputs: StreamNumbers,
-        outputs: StreamNumbers,
-        opening: Bands,
-    },
-    Splitter {
-        name: Text,
-        unit: Splitter,
-        inputs: StreamNumbers,
-        outputs: StreamNumbers,
-        opening: Bands,
-    },
+    Tank { unit: Tank, ends: Ends },
+    Reactor { unit: Reactor, ends: Ends },
+    Column { unit: Column, ends: Ends },
+    Controller { unit: Controller, ends: Ends },
+    Mixer { unit: Mixer, ends: Ends },
+    Splitter { unit: Splitter, ends: Ends },
 }
 
 impl Unit {
     ghost use Rattle.std.specs.Prelude.{◌≡◌};
-    ghost use Rattle.plant_units.specs.Units.{name_of, kind_of, reads_of, gives_of, opening_of};
+    ghost use Rattle.plant_units.specs.Units.{ends_of, name_of, kind_of, reads_of, gives_of, opening_of};
+
+    /// What it has beside the parameters of its kind.
+    fn ends(&self) -> &Ends
+        ensures { result.now ≡ ends_of self.now }
+    {
+        match self {
+            Unit::Tank { ends, .. } => ends,
+            Unit::Reactor { ends, .. } => ends,
+            Unit::Column { ends, .. } => ends,
+            Unit::Controller { ends, .. } => ends,
+            Unit::Mixer { ends, .. } => ends,
+            Unit::Splitter { ends, .. } => ends,
+        }
+    }
 
     /// Its name.
     pub fn name(&self) -> &[u8]
         ensures { result.now ≡ name_of self.now }
     {
-        match self {
-            Unit::Tank { name, .. } => name.as_bytes(),
-            Unit::Reactor { name, .. } => name.as_bytes(),
-            Unit::Column { name, .. } => name.as_bytes(),
-            Unit::Controller { name, .. } => name.as_bytes(),
-            Unit::Mixer { name, .. } => name.as_bytes(),
-            Unit::Splitter { name, .. } => name.as_bytes(),
-        }
+        self.ends().name.as_bytes()
     }
 
     /// The name of its kind in a plant file.
@@ -189,41 +76,20 @@ impl Unit {
     pub fn inputs(&self) -> &[u32]
         ensures { result.now ≡ reads_of self.now }
     {
-        match self {
-            Unit::Tank { inputs, .. } => inputs.as_slice(),
-            Unit::Reactor { inputs, .. } => inputs.as_slice(),
-            Unit::Column { inputs, .. } => inputs.as_slice(),
-            Unit::Controller { inputs, .. } => inputs.as_slice(),
-            Unit::Mixer { inputs, .. } => inputs.as_slice(),
-            Unit::Splitter { inputs, .. } => inputs.as_slice(),
-        }
+        self.ends().inputs.as_slice()
     }
 
     /// The numbers of the streams that it gives.
     pub fn outputs(&self) -> &[u32]
         ensures { result.now ≡ gives_of self.now }
     {
-        match self {
-            Unit::Tank { outputs, .. } => outputs.as_slice(),
-            Unit::Reactor { outputs, .. } => outputs.as_slice(),
-            Unit::Column { outputs, .. } => outputs.as_slice(),
-            Unit::Controller { outputs, .. } => outputs.as_slice(),
-            Unit::Mixer { outputs, .. } => outputs.as_slice(),
-            Unit::Splitter { outputs, .. } => outputs.as_slice(),
-        }
+        self.ends().outputs.as_slice()
     }
 
     /// The bands of its states at the first tick.
     pub fn opening(&self) -> &[Band]
         ensures { result.now ≡ opening_of self.now }
     {
-        match self {
-            Unit::Tank { opening, .. } => opening.as_slice(),
-            Unit::Reactor { opening, .. } => opening.as_slice(),
-            Unit::Column { opening, .. } => opening.as_slice(),
-            Unit::Controller { opening, .. } => opening.as_slice(),
-            Unit::Mixer { opening, .. } => opening.as_slice(),
-            Unit::Splitter { opening, .. } => opening.as_slice(),
-        }
+        self.ends().opening.as_slice()
     }
 }

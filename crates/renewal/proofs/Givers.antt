@@ -21,15 +21,10 @@ use Rattle.plant.proofs.PlantLaws.{plant-sound}
 use Rattle.plant.proofs.Showing.{shown_rows, row-is}
 use Rattle.renewal.specs.Plan.{PlanOf, IsPlan, carried_into}
 use Rattle.renewal.specs.Room.{planned, AreOpened}
+pub use Rattle.renewal.specs.Giver.{IsGiver}
 use Rattle.renewal.proofs.Openings.{opened-ticked, opened-inside}
 
 -- the unit of the plan with this number
-pub record IsGiver (plan : PlanOf) (u : ℕ) (x : Unit) : Type 0 where
-  pub plan_is : IsPlan plan
-  pub there : u < length (units_of plan.parts)
-  pub sound : IsSoundUnit plan.parts u x
-  pub is : planned plan u ≡ sheet_unit x
-
 pub is-giver : (plan : PlanOf) (u : ℕ) (x : Unit) (units : List Unit) → IsPlan plan → u < length (units_of plan.parts) →
     x ≡ get_or units u x → units ≡ units_of plan.parts → IsGiver plan u x
 is-giver plan u x units h l e k =

@@ -22,7 +22,8 @@ use Rattle.plant.proofs.Showing.{shown_rows, views-rows}
 use Rattle.renewal.specs.Plan.{PlanOf, carried_into, window_of}
 use Rattle.renewal.specs.Room.{planned, RenewalOf, HasRoomFor, renewal_of}
 use Rattle.renewal.specs.Ticks.{spread_at, AreFilled, IsRenewed, port_in}
-use Rattle.renewal.proofs.Givers.{IsGiver, states-limited, steps-are, state-limits-are, output-limits-are}
+use Rattle.renewal.specs.Giver.{IsGiver}
+use Rattle.renewal.proofs.Givers.{states-limited, steps-are, state-limits-are, output-limits-are}
 use Rattle.renewal.proofs.Givers.{views-are, shown-are, shown-wide, shown-counted}
 use Rattle.renewal.proofs.Shapes.{shape-ticks, shape-wide, shapes-at, shapes-counted, same-tube}
 use Rattle.renewal.proofs.Spread.{AreFit, fit-each, fit-filled, fit-at, fit-shape, shape-set}

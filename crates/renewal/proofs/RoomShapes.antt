@@ -13,7 +13,8 @@ use Rattle.plant_units.proofs.AllKinds.{ports-alike}
 use Rattle.plant.proofs.Lookups.{at-map}
 use Rattle.renewal.specs.Plan.{PlanOf, window_of}
 use Rattle.renewal.specs.Room.{planned}
-use Rattle.renewal.proofs.Givers.{IsGiver, output-limits-are, state-limits-are}
+use Rattle.renewal.specs.Giver.{IsGiver}
+use Rattle.renewal.proofs.Givers.{output-limits-are, state-limits-are}
 use Rattle.renewal.proofs.Openings.{opening-port}
 
 -- what holds of each of a list holds at a place

@@ -1,50 +1,13 @@
 -- Rows that are gathered from tubes, and spread over them, one tube after another.
-use Rattle.std.proofs.Common.{◌≡◌, ◌∙◌, ℕ, zero, suc, ◌+◌, ◌<◌, ◌≤◌, List, [], ◌∷◌, ◌++◌, length, take, drop, map}
-use Rattle.std.proofs.Common.{get_or, refl, sym, subst, ap, arith}
+use Rattle.std.proofs.Common.{◌≡◌, ◌∙◌, ℕ, zero, suc, ◌<◌, List, [], ◌∷◌, ◌++◌, length, take, drop, map}
+use Rattle.std.proofs.Common.{refl, sym, subst, ap, arith}
 use Rattle.std.specs.Prelude.{slice_index_or, slice_set}
-use Rattle.std.specs.List.{AllByRecursion}
-use Rattle.std.proofs.lemmas.List.{drop_more, append_assoc, length-append, length-take-le, length-drop}
-use Rattle.std.proofs.lemmas.Slice.{take-put_mid}
+use Rattle.std.proofs.lemmas.List.{length-append}
 use Rattle.std.proofs.Math.Seq.{take-append_seam, drop-append_seam, map-set_same}
-use borrow.Rule.Slice.PartMut.{put_mid}
 use Rattle.quant.specs.Interval.{Interval}
 use Rattle.quant.specs.Ports.{outputs}
 use Rattle.relaxation.specs.Tube.{Tube, at}
-use Rattle.relaxation.specs.Window.{row_of}
 use Rattle.renewal.specs.Ticks.{spread_at, AreFilled}
-
--- what is gathered already, and what is left to gather
-pub record IsGathering (tubes : List Tube) (t i place : ℕ) (ins : List Interval) : Type 0 where
-  pub ticked : AllByRecursion (λ tube. t < length tube) (drop i tubes)
-  pub room : place + length (row_of (drop i tubes) t) ≤ length ins
-  pub same : take place ins ++ row_of (drop i tubes) t ≡ row_of tubes t
-
--- the next tube has the tick
-pub gathering-ticked : (tubes : List Tube) (t i place : ℕ) (ins : List Interval) → i < length tubes →
-    IsGathering tubes t i place ins → t < length (get_or tubes i [])
-gathering-ticked tubes t i place ins h g =
-    (subst (λ (rest : List Tube). AllByRecursion (λ tube. t < length tube) rest) (drop_more tubes i [] h) g.ticked).0
-
--- its channels are written behind what is gathered
-pub gathering-more : (tubes : List Tube) (t i place k : ℕ) (ins channels : List Interval) → i < length tubes →
-    IsGathering tubes t i place ins → channels ≡ at (get_or tubes i []) t → k ≡ length channels →
-    IsGathering tubes t (i + 1) (place + length channels) (put_mid place k ins channels)
-gathering-more tubes t i place k ins channels h g e d =
-    let ticked = subst (λ (rest : List Tube). AllByRecursion (λ tube. t < length tube) rest)
-    (drop_more tubes i [] h) g.ticked in
-    let more : row_of (drop i tubes) t ≡ channels ++ row_of (drop (i + 1) tubes) t =
-    ap (λ rest. row_of rest t) (drop_more tubes i [] h) ∙ ap (λ cs. cs ++ row_of (drop (i + 1) tubes) t) (sym e) in
-    let lengths = ap length more ∙ length-append channels (row_of (drop (i + 1) tubes) t) in
-    let written : take (place + length channels) (put_mid place k ins channels) ≡ take place ins ++ channels =
-    take-put_mid place k ins channels (place + length channels) refl (omega (arith, g.room)) in
-    record {
-      ticked = ticked.1;
-      room = simp (length-append, length-take-le place ins (omega (arith, g.room)), length-drop)
-          (omega (arith, g.room, lengths));
-      same = ap (λ cs. cs ++ row_of (drop (i + 1) tubes) t) written
-          ∙ (append_assoc (take place ins) channels (row_of (drop (i + 1) tubes) t)
-          ∙ (ap (λ cs. take place ins ++ cs) (sym more) ∙ g.same));
-    }
 
 -- a row for each tube at this tick, with as many bands
 abbrev pub AreFit : ℕ → List (List Interval) → List Tube → Type 0

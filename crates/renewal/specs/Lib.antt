@@ -1,4 +1,5 @@
 pub mod Lending
 pub mod Plan
 pub mod Room
+pub mod Giver
 pub mod Ticks

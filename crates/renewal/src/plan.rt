@@ -1,5 +1,5 @@
 use crate::carried::Carried;
-use plant::Plant;
+use plant::{Plant, Unit};
 use std::marker::Model;
 use tubes::FeedTubes;
 
@@ -36,8 +36,10 @@ impl<'p> Model for WindowPlan<'p> {
 }
 
 impl<'p> WindowPlan<'p> {
-    ghost use Rattle.std.specs.Prelude.{◌≡◌};
+    ghost use Rattle.std.specs.Prelude.{◌≡◌, ◌<◌, length};
+    ghost use Rattle.plant_units.specs.Units.{units_of};
     ghost use Rattle.renewal.specs.Plan.{IsPlan};
+    ghost use Rattle.renewal.specs.Giver.{IsGiver};
 
     /// A window of `ticks` ticks from tick `first` on.
     pub fn new(plant: &'p Plant, first: u32, ticks: u32, carried: Carried, feeds: FeedTubes) -> Self
@@ -70,6 +72,14 @@ impl<'p> WindowPlan<'p> {
         ensures plan { IsPlan self.now }
     {
         self.plant
+    }
+
+    /// The unit with this number.
+    pub(crate) fn unit(&self, unit: u32) -> &'p Unit
+        requires { unit < length (units_of self.now.parts) }
+        ensures { IsGiver self.now unit result.now }
+    {
+        &self.plant().units()[unit as usize]
     }
 
     /// The first of its ticks among the plant's.

@@ -50,7 +50,7 @@ fn renew_tick(
     requires renewed { IsRenewed plan.now unit inputs.now tick outputs.old }
     ensures { IsRenewed plan.now unit inputs.now (tick + 1) outputs.new }
 {
-    let giver = &plan.plant().units()[unit as usize];
+    let giver = plan.unit(unit);
     let mut ins = [Band::point(0); INPUTS];
     let count = gather_at(inputs.as_slice(), tick, &mut ins);
     outputs.show(giver, tick, &ins[..count]);

@@ -72,7 +72,7 @@ impl Inputs {
         ensures { IfOk result (λ inputs. inputs ≡ map (window_of plan.now).opening (planned plan.now unit).reads) }
     {
         let mut tubes = Vec::new(alloc);
-        for stream in plan.plant().units()[unit as usize].inputs() {
+        for stream in plan.unit(unit).inputs() {
             tubes.push(opening_tube(alloc, plan, *stream)?)?;
         }
         Ok(Inputs { tubes })
@@ -114,7 +114,7 @@ impl Outputs {
         requires { unit < length (units_of plan.now.parts) }
         ensures { IfOk result (HasRoomFor plan.now unit) }
     {
-        let giver = &plan.plant().units()[unit as usize];
+        let giver = plan.unit(unit);
         let mut tubes = Vec::new(alloc);
         for stream in giver.outputs() {
             tubes.push(opening_tube(alloc, plan, *stream)?)?;

@@ -10,11 +10,11 @@ contains_rest x xs v c = (suc c.0, omega (arith, c.1), c.2)
 pub contains_first : (x : ℕ) (xs : List ℕ) → Contains (x ∷ xs) x
 contains_first x xs = (0, omega arith, refl)
 
-fold_start : (a : ℕ) (xs : List ℕ) → a ≤ fold max a xs
+pub fold_start : (a : ℕ) (xs : List ℕ) → a ≤ fold max a xs
 fold_start a [] = omega arith
 fold_start a (x ∷ xs) = let h : max a x ≤ fold max (max a x) xs = fold_start (max a x) xs in omega arith
 
-value_at : (f : ℕ → ℕ) (a : ℕ) (xs : List ℕ) (k d : ℕ) → k < length xs →
+pub value_at : (f : ℕ → ℕ) (a : ℕ) (xs : List ℕ) (k d : ℕ) → k < length xs →
     f (slice_index_or xs k d) ≤ fold max a (map f xs)
 value_at f a [] k d h = absurd (omega arith)
 value_at f a (x ∷ xs) zero d h = let g : max a (f x) ≤ fold max (max a (f x)) (map f xs) = fold_start (max a (f x))

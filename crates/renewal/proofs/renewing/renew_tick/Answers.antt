@@ -5,12 +5,12 @@ use Rattle.quant.specs.Interval.{Interval, AllInside}
 use Rattle.relaxation.specs.Tube.{Tube, at}
 use Rattle.relaxation.specs.Window.{row_of}
 use Rattle.plant_units.specs.declared.units.Unit.{Unit}
-use Rattle.plant_units.specs.Units.{units_of, state_limits_of, MayTake}
+use Rattle.plant_units.specs.Units.{state_limits_of, MayTake}
 use Rattle.plant_units.specs.Steps.{views, steps}
 use Rattle.plant_units.proofs.AllKinds.{takes-few}
 use Rattle.renewal.specs.Room.{RenewalOf}
 use Rattle.renewal.specs.Ticks.{spread_at, IsRenewed}
-use Rattle.renewal.proofs.Givers.{is-giver, row-taken, tubes-ticked, state-limits-are}
+use Rattle.renewal.proofs.Givers.{row-taken, tubes-ticked, state-limits-are}
 use Rattle.renewal.proofs.Renewed.{states-inside, states-counted, states-wide, shown-filled, renewed-more}
 use Rattle.renewal.proofs.renewing.renew_tick.Goals as goal
 
@@ -28,60 +28,53 @@ after_tick x n made row = record {
 pub gather_at-count-requires-clause-ticked : goal.gather_at-count-requires-clause-ticked
 gather_at-count-requires-clause-ticked c =
     let plan = c.args.plan.now in
-    let x = c.index-units-unit.result in
-    let g = is-giver plan c.args.unit x _ c.plant.ensures.plan c.requires.unit c.index-units-unit.is
-    (c.units.ensures ∙ ap units_of c.plant.ensures.plant) in
+    let x = c.unit-giver.result.now in
+    let g = c.unit-giver.ensures in
     rw c.as_slice.ensures
     (tubes-ticked plan c.args.unit x g c.args.tick c.args.inputs.now c.requires.tick c.requires.inputs)
 
 pub gather_at-count-requires-clause-room : goal.gather_at-count-requires-clause-room
 gather_at-count-requires-clause-room c =
     let plan = c.args.plan.now in
-    let x = c.index-units-unit.result in
-    let g = is-giver plan c.args.unit x _ c.plant.ensures.plan c.requires.unit c.index-units-unit.is
-    (c.units.ensures ∙ ap units_of c.plant.ensures.plant) in
+    let x = c.unit-giver.result.now in
+    let g = c.unit-giver.ensures in
     rw c.as_slice.ensures (takes-few x (row_of c.args.inputs.now c.args.tick) g.sound.sound
     (row-taken plan c.args.unit x g c.args.tick c.args.inputs.now c.requires.tick c.requires.inputs))
 
 pub show-requires-clause-sound : goal.show-requires-clause-sound
 show-requires-clause-sound c =
     let plan = c.args.plan.now in
-    let x = c.index-units-unit.result in
-    let g = is-giver plan c.args.unit x _ c.plant.ensures.plan c.requires.unit c.index-units-unit.is
-    (c.units.ensures ∙ ap units_of c.plant.ensures.plant) in
+    let x = c.unit-giver.result.now in
+    let g = c.unit-giver.ensures in
     g.sound.sound
 
 pub step-requires-clause-sound : goal.step-requires-clause-sound
 step-requires-clause-sound c =
     let plan = c.args.plan.now in
-    let x = c.index-units-unit.result in
-    let g = is-giver plan c.args.unit x _ c.plant.ensures.plan c.requires.unit c.index-units-unit.is
-    (c.units.ensures ∙ ap units_of c.plant.ensures.plant) in
+    let x = c.unit-giver.result.now in
+    let g = c.unit-giver.ensures in
     g.sound.sound
 
 pub show-requires-clause-states : goal.show-requires-clause-states
 show-requires-clause-states c =
     let plan = c.args.plan.now in
-    let x = c.index-units-unit.result in
-    let g = is-giver plan c.args.unit x _ c.plant.ensures.plan c.requires.unit c.index-units-unit.is
-    (c.units.ensures ∙ ap units_of c.plant.ensures.plant) in
+    let x = c.unit-giver.result.now in
+    let g = c.unit-giver.ensures in
     states-inside plan c.args.unit x g c.args.inputs.now c.args.outputs.now c.args.tick c.requires.renewed
 
 pub step-requires-clause-states : goal.step-requires-clause-states
 step-requires-clause-states c =
     let plan = c.args.plan.now in
-    let x = c.index-units-unit.result in
-    let g = is-giver plan c.args.unit x _ c.plant.ensures.plan c.requires.unit c.index-units-unit.is
-    (c.units.ensures ∙ ap units_of c.plant.ensures.plant) in
+    let x = c.unit-giver.result.now in
+    let g = c.unit-giver.ensures in
     subst (λ (made : RenewalOf). AllInside (at made.states c.args.tick) (state_limits_of x)) (sym c.show.ensures)
     (states-inside plan c.args.unit x g c.args.inputs.now c.args.outputs.now c.args.tick c.requires.renewed)
 
 pub show-requires-clause-inputs : goal.show-requires-clause-inputs
 show-requires-clause-inputs c =
     let plan = c.args.plan.now in
-    let x = c.index-units-unit.result in
-    let g = is-giver plan c.args.unit x _ c.plant.ensures.plan c.requires.unit c.index-units-unit.is
-    (c.units.ensures ∙ ap units_of c.plant.ensures.plant) in
+    let x = c.unit-giver.result.now in
+    let g = c.unit-giver.ensures in
     let tubes = c.args.inputs.now in
     let bands = c.gather_at-count.ensures.bands ∙ ap (λ (ts : List Tube). row_of ts c.args.tick) c.as_slice.ensures in
     let taken = row-taken plan c.args.unit x g c.args.tick tubes c.requires.tick c.requires.inputs in
@@ -90,9 +83,8 @@ show-requires-clause-inputs c =
 pub step-requires-clause-inputs : goal.step-requires-clause-inputs
 step-requires-clause-inputs c =
     let plan = c.args.plan.now in
-    let x = c.index-units-unit.result in
-    let g = is-giver plan c.args.unit x _ c.plant.ensures.plan c.requires.unit c.index-units-unit.is
-    (c.units.ensures ∙ ap units_of c.plant.ensures.plant) in
+    let x = c.unit-giver.result.now in
+    let g = c.unit-giver.ensures in
     let tubes = c.args.inputs.now in
     let bands = c.gather_at-count.ensures.bands ∙ ap (λ (ts : List Tube). row_of ts c.args.tick) c.as_slice.ensures in
     let taken = row-taken plan c.args.unit x g c.args.tick tubes c.requires.tick c.requires.inputs in
@@ -101,18 +93,16 @@ step-requires-clause-inputs c =
 pub show-requires-clause-room : goal.show-requires-clause-room
 show-requires-clause-room c =
     let plan = c.args.plan.now in
-    let x = c.index-units-unit.result in
-    let g = is-giver plan c.args.unit x _ c.plant.ensures.plan c.requires.unit c.index-units-unit.is
-    (c.units.ensures ∙ ap units_of c.plant.ensures.plant) in
+    let x = c.unit-giver.result.now in
+    let g = c.unit-giver.ensures in
     shown-filled plan c.args.unit x g c.args.outputs.now c.args.tick _ c.requires.renewed.shape c.requires.tick
     (states-inside plan c.args.unit x g c.args.inputs.now c.args.outputs.now c.args.tick c.requires.renewed)
 
 pub step-requires-clause-tick : goal.step-requires-clause-tick
 step-requires-clause-tick c =
     let plan = c.args.plan.now in
-    let x = c.index-units-unit.result in
-    let g = is-giver plan c.args.unit x _ c.plant.ensures.plan c.requires.unit c.index-units-unit.is
-    (c.units.ensures ∙ ap units_of c.plant.ensures.plant) in
+    let x = c.unit-giver.result.now in
+    let g = c.unit-giver.ensures in
     omega (
       arith,
       ap (λ (made : RenewalOf). length made.states) c.show.ensures,
@@ -123,22 +113,20 @@ step-requires-clause-tick c =
 pub step-requires-clause-few : goal.step-requires-clause-few
 step-requires-clause-few c =
     let plan = c.args.plan.now in
-    let x = c.index-units-unit.result in
-    let g = is-giver plan c.args.unit x _ c.plant.ensures.plan c.requires.unit c.index-units-unit.is
-    (c.units.ensures ∙ ap units_of c.plant.ensures.plant) in
+    let x = c.unit-giver.result.now in
+    let g = c.unit-giver.ensures in
     omega (
       arith,
       ap (λ (made : RenewalOf). length made.states) c.show.ensures,
       states-counted plan c.args.unit x g c.args.outputs.now c.requires.renewed.shape,
-      c.plant.ensures.plan.few,
+      g.plan_is.few,
     )
 
 pub step-requires-clause-next : goal.step-requires-clause-next
 step-requires-clause-next c =
     let plan = c.args.plan.now in
-    let x = c.index-units-unit.result in
-    let g = is-giver plan c.args.unit x _ c.plant.ensures.plan c.requires.unit c.index-units-unit.is
-    (c.units.ensures ∙ ap units_of c.plant.ensures.plant) in
+    let x = c.unit-giver.result.now in
+    let g = c.unit-giver.ensures in
     ap (λ (made : RenewalOf). length (at made.states (c.args.tick + 1))) c.show.ensures
     ∙ states-wide plan c.args.unit x g c.args.outputs.now (c.args.tick + 1) c.requires.renewed.shape
     (omega (arith, c.requires.tick))
@@ -146,17 +134,15 @@ step-requires-clause-next c =
 pub step-requires-clause-room : goal.step-requires-clause-room
 step-requires-clause-room c =
     let plan = c.args.plan.now in
-    let x = c.index-units-unit.result in
-    let g = is-giver plan c.args.unit x _ c.plant.ensures.plan c.requires.unit c.index-units-unit.is
-    (c.units.ensures ∙ ap units_of c.plant.ensures.plant) in
+    let x = c.unit-giver.result.now in
+    let g = c.unit-giver.ensures in
     c.requires.room ∙ ap length (state-limits-are plan c.args.unit x g)
 
 pub returns : goal.returns
 returns c =
     let plan = c.args.plan.now in
-    let x = c.index-units-unit.result in
-    let g = is-giver plan c.args.unit x _ c.plant.ensures.plan c.requires.unit c.index-units-unit.is
-    (c.units.ensures ∙ ap units_of c.plant.ensures.plant) in
+    let x = c.unit-giver.result.now in
+    let g = c.unit-giver.ensures in
     let tubes = c.args.inputs.now in
     let n = c.args.tick in
     let made = c.args.outputs.now in

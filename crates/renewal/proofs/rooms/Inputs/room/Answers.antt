@@ -3,18 +3,16 @@ use Rattle.std.proofs.Common.{◌<◌, ◌∙◌, ℕ, List, length, map, ap, sy
 use Rattle.std.specs.List.{AllByRecursion}
 use Rattle.std.proofs.lemmas.List.{take_all}
 use Rattle.plant_streams.specs.Streams.{streams_of}
-use Rattle.plant_units.specs.Units.{units_of}
 use Rattle.renewal.specs.Plan.{window_of}
-use Rattle.renewal.proofs.Givers.{is-giver, reads-are}
+use Rattle.renewal.proofs.Givers.{reads-are}
 use Rattle.renewal.proofs.RoomShapes.{below-at}
 use Rattle.renewal.proofs.rooms.Inputs.room.Goals as goal
 
 pub opening_tube-requires : goal.opening_tube-requires
 opening_tube-requires c =
     let plan = c.args.plan.now in
-    let x = c.index-units-unit.result in
-    let g = is-giver plan c.args.unit x _ c.plant.ensures.plan c.requires c.index-units-unit.is
-    (c.units.ensures ∙ ap units_of c.plant.ensures.plant) in
+    let x = c.unit.result.now in
+    let g = c.unit.ensures in
     below-at (length (streams_of plan.parts)) c.inputs-stream-items.result.now c.loop-stream.stream-index
     (subst (λ (reads : List ℕ). AllByRecursion (λ s. s < length (streams_of plan.parts)) reads)
     (sym c.inputs-stream-items.ensures)
@@ -24,9 +22,8 @@ opening_tube-requires c =
 pub returns : goal.returns
 returns c =
     let plan = c.args.plan.now in
-    let x = c.index-units-unit.result in
-    let g = is-giver plan c.args.unit x _ c.plant.ensures.plan c.requires c.index-units-unit.is
-    (c.units.ensures ∙ ap units_of c.plant.ensures.plant) in
+    let x = c.unit.result.now in
+    let g = c.unit.ensures in
     c.loop-stream.invariant
     ∙ ap (map (window_of plan).opening)
     (take_all c.loop-stream.stream-index c.inputs-stream-items.result.now (omega arith)

@@ -2,19 +2,17 @@
 use Rattle.std.proofs.Common.{◌<◌, ◌+◌, ◌∙◌, ℕ, List, length, map, replicate, get_or, ap, sym, subst, arith}
 use Rattle.std.proofs.lemmas.List.{take_all}
 use Rattle.plant_streams.specs.Streams.{streams_of}
-use Rattle.plant_units.specs.Units.{units_of, gives_of, opening_of}
+use Rattle.plant_units.specs.Units.{gives_of, opening_of}
 use Rattle.plant_units.proofs.AllKinds.{states-few}
 use Rattle.renewal.specs.Plan.{window_of}
-use Rattle.renewal.proofs.Givers.{is-giver}
 use Rattle.renewal.proofs.RoomShapes.{outputs-shape, states-shape}
 use Rattle.renewal.proofs.rooms.Outputs.room.Goals as goal
 
 pub opening_tube-requires : goal.opening_tube-requires
 opening_tube-requires c =
     let plan = c.args.plan.now in
-    let x = c.index-units-unit.result in
-    let g = is-giver plan c.args.unit x _ c.plant.ensures.plan c.requires c.index-units-unit.is
-    (c.units.ensures ∙ ap units_of c.plant.ensures.plant) in
+    let x = c.unit-giver.result.now in
+    let g = c.unit-giver.ensures in
     let i = c.loop-stream.stream-index in
     let there : i < length (gives_of x) =
     omega (arith, c.loop-stream-test.true, ap length c.outputs-stream-items.ensures) in
@@ -24,17 +22,15 @@ opening_tube-requires c =
 pub filled-requires : goal.filled-requires
 filled-requires c =
     let plan = c.args.plan.now in
-    let x = c.index-units-unit.result in
-    let g = is-giver plan c.args.unit x _ c.plant.ensures.plan c.requires c.index-units-unit.is
-    (c.units.ensures ∙ ap units_of c.plant.ensures.plant) in
+    let x = c.unit-giver.result.now in
+    let g = c.unit-giver.ensures in
     omega (arith, ap length c.opening.ensures, states-few x (opening_of x) g.sound.sound g.sound.starts)
 
 pub returns : goal.returns
 returns c =
     let plan = c.args.plan.now in
-    let x = c.index-units-unit.result in
-    let g = is-giver plan c.args.unit x _ c.plant.ensures.plan c.requires c.index-units-unit.is
-    (c.units.ensures ∙ ap units_of c.plant.ensures.plant) in
+    let x = c.unit-giver.result.now in
+    let g = c.unit-giver.ensures in
     record {
       ports_shape =
           ap (map (map length)) (c.loop-stream.invariant
