@@ -32,12 +32,6 @@ pub record IsRead (I A : Interval) : Type 0 where
 pub is_read : (I A : Interval) → I ≡ A → I.lo ≤ℤ I.hi → FitsSigned w64 I.lo → FitsSigned w64 I.hi → IsRead I A
 is_read I A e o h k = record { band = read-band I A e o; ends = read-ends I A e h k }
 
-pub read-low : (I A B : Interval) → I ≡ A → I.lo ≤ℤ I.hi → FitsSigned w64 I.lo → IsInside A B →
-    Holds B (to_z w64 (of_z w64 I.lo))
-read-low I A B e o h i =
-    let same = ends_same I A e in
-    record { above = omega (arith, ints); below = omega (arith, ints) }
-
 pub read-high : (I A B : Interval) → I ≡ A → I.lo ≤ℤ I.hi → FitsSigned w64 I.hi → IsInside A B →
     Holds B (to_z w64 (of_z w64 I.hi))
 read-high I A B e o h i =

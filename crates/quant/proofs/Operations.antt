@@ -330,10 +330,6 @@ gain-around r k a h p = gain-within r k a greatest_amount steepest greatest_cont
 pub keep-around : (r : Rounding) (a g : ℤ) (n : ℕ) → Holds (around n) a → Holds (around n) (keep r a g)
 keep-around r a g n h = between-around (pos 0) a (keep r a g) n (zero-around n) h (keep-between r a g)
 
-pub blend-around : (r : Rounding) (c d m v : ℤ) (n : ℕ) → Holds (around n) c → Holds (around n) d →
-    Holds (around n) (blend r c d m v)
-blend-around r c d m v n h k = between-around c d (blend r c d m v) n h k (blend-between r c d m v)
-
 -- the definitions, opened
 same-blend : (r : Rounding) (c d m w v n : ℤ) → w ≡ v → n ≡ part v m →
     quotient r (weighed c d w (part w m)) w ≡ quotient r (weighed c d v n) v
