@@ -12,7 +12,7 @@ use Rattle.quant.proofs.Hulls.{inside-holds}
 use Rattle.quant.proofs.Calls.{held-length, inside-length, inside-trans, read-inside}
 use Rattle.quant.proofs.Terms.{place-holds, place-inside}
 use Rattle.column_section.specs.declared.column.Column.{Column}
-use Rattle.column_section.specs.Column.{IsSound, stages_of, above, below, liquid_conc, vapour_conc, stage, state_limits, register_limits, input_limits}
+use Rattle.column_section.specs.Column.{IsSound, stages_of, above, below, liquid, vapour, stage, state_limits, register_limits, input_limits}
 use Rattle.column_section.specs.ColumnLaws.{stage-limits}
 
 -- how many states there are
@@ -53,7 +53,7 @@ input-inside xs n r h b e =
     read-inside xs n r _ (omega arith) e (place-inside xs input_limits n h)
 
 -- what comes to a stage from above and from below
-pub above-first : (i : ℕ) → i ≡ 0 → above i ≡ liquid_conc
+pub above-first : (i : ℕ) → i ≡ 0 → above i ≡ liquid.conc
 above-first zero e = refl
 above-first (suc i) e = absurd (omega arith)
 
@@ -63,11 +63,11 @@ above-later (suc i) h = ap state (omega arith)
 
 pub below-middle : (column : Column) (i : ℕ) → i + 1 < column.stages →
     below column i ≡ gain_of column.slope (state (i + 1))
-below-middle column i h = ap (λ b. if b then gain_of column.slope (state (i + 1)) else vapour_conc)
+below-middle column i h = ap (λ b. if b then gain_of column.slope (state (i + 1)) else vapour.conc)
     (lt-ltb (i + 1) column.stages h)
 
-pub below-last : (column : Column) (i : ℕ) → column.stages ≤ i + 1 → below column i ≡ vapour_conc
-below-last column i h = ap (λ b. if b then gain_of column.slope (state (i + 1)) else vapour_conc)
+pub below-last : (column : Column) (i : ℕ) → column.stages ≤ i + 1 → below column i ≡ vapour.conc
+below-last column i h = ap (λ b. if b then gain_of column.slope (state (i + 1)) else vapour.conc)
     (le-ltb (i + 1) column.stages h)
 
 -- stages that are filled one by one are all the stages
