@@ -28,24 +28,18 @@ impl Instant for Splitter {
     fn now_point(&self, ins: &[i64], outs: &mut [i64]) {
         let conc = clamp(ins[1], self.limits.conc);
         let temp = clamp(ins[2], self.limits.temp);
-        outs[0] = clamp(share(ins[0], self.share), self.limits.flow);
-        outs[1] = conc;
-        outs[2] = temp;
-        outs[3] = clamp(keep(ins[0], self.share), self.limits.flow);
-        outs[4] = conc;
-        outs[5] = temp;
+        let first = clamp(share(ins[0], self.share), self.limits.flow);
+        let second = clamp(keep(ins[0], self.share), self.limits.flow);
+        outs.copy_from_slice(&[first, conc, temp, second, conc, temp]);
     }
 
     fn now_band(&self, ins: &[Band], outs: &mut [Band]) {
         let share = Band::point(self.share);
         let conc = clamp_band(ins[1], self.limits.conc);
         let temp = clamp_band(ins[2], self.limits.temp);
-        outs[0] = clamp_band(share_band(ins[0], share), self.limits.flow);
-        outs[1] = conc;
-        outs[2] = temp;
-        outs[3] = clamp_band(keep_band(ins[0], share), self.limits.flow);
-        outs[4] = conc;
-        outs[5] = temp;
+        let first = clamp_band(share_band(ins[0], share), self.limits.flow);
+        let second = clamp_band(keep_band(ins[0], share), self.limits.flow);
+        outs.copy_from_slice(&[first, conc, temp, second, conc, temp]);
     }
 
     ghost now_limited = { now-limited };
