@@ -30,6 +30,15 @@ pub bands-length : (column : Column) (xs : List Interval) → AllInside xs (stat
     length xs ≡ column.stages + 4
 bands-length column xs h = inside-length xs (state_limits column) h ∙ limits-length column
 
+-- so each place before that number is there
+pub state-there : (column : Column) (xs : List ℤ) (n : ℕ) → AllHold (state_limits column) xs → n < column.stages + 4 →
+    n < length xs
+state-there column xs n h k = omega (arith, states-length column xs h)
+
+pub band-there : (column : Column) (xs : List Interval) (n : ℕ) → AllInside xs (state_limits column) →
+    n < column.stages + 4 → n < length xs
+band-there column xs n h k = omega (arith, bands-length column xs h)
+
 -- each stage's conc lies where its limits may
 pub state-held : (column : Column) (xs : List ℤ) (i : ℕ) → IsSound column → AllHold (state_limits column) xs →
     i < column.stages → Holds wide (slice_index_or xs i (pos 0))
