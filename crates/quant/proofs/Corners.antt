@@ -124,11 +124,8 @@ pub keep-shares : (r : Rounding) → IsSharing (keep r) (λ a. a) (λ a. pos 0)
 keep-shares r = record { rises = keep-rises r; drawn = keep-drawn r; between = keep-between r }
 
 -- the hull of such an operation over bands
-pub record IsShared (f : ℤ → ℤ → ℤ) (A G R : Interval) : Type 0 where
-  pub ordered : R.lo ≤ℤ R.hi
-  pub hull : R ≡ hull2 f A G
-  pub exact : IsHull (IsValue2 f A G) R
-  pub between : IsInside R (join (point (pos 0)) A)
+abbrev pub IsShared : (ℤ → ℤ → ℤ) → Interval → Interval → Interval → Type 0
+IsShared f A G R = IsMade (IsValue2 f A G) (hull2 f A G) R × IsInside R (join (point (pos 0)) A)
 
 value-between : (f : ℤ → ℤ → ℤ) → ((a g : ℤ) → Holds (join (point (pos 0)) (point a)) (f a g)) →
     (A G : Interval) (z : ℤ) →
@@ -162,16 +159,13 @@ shared f C D sharing I A G x y r s i g t u h k fr fs m n =
     let monotone : IsMonotone2 f = (
       (λ b. rises (λ a. f a b) (λ a c l. sharing.rises a c b l)),
       (λ a. drawn-monotone (C a) (D a) (f a) (sharing.drawn a)),
-    ) in
-    record {
-      ordered = hull-ordered _ _ exact;
-      hull = one_hull _ _ (hull2 f A G) exact (hull2-exact f A G i.band g monotone);
-      exact = exact;
-      between = record {
+    ) in (
+      made _ _ _ exact (hull2-exact f A G i.band g monotone),
+      record {
         above = (value-between f sharing.between A G _ exact.low).above;
         below = (value-between f sharing.between A G _ exact.high).below;
-      };
-    }
+      },
+    )
 
 -- the first argument is drawn by c and d, and the second by e and g
 pub record AreDrawn (c d e g : ℤ) (f : ℤ → ℤ → ℤ) : Type 0 where
@@ -301,11 +295,8 @@ mix-blends r = record {
 }
 
 -- the hull of such an operation over bands
-pub record IsBlended (f : ℤ → ℤ → ℤ → ℤ → ℤ) (C D A B R : Interval) : Type 0 where
-  pub ordered : R.lo ≤ℤ R.hi
-  pub hull : R ≡ hull4 f C D A B
-  pub exact : IsHull (IsValue4 f C D A B) R
-  pub between : IsInside R (join C D)
+abbrev pub IsBlended : (ℤ → ℤ → ℤ → ℤ → ℤ) → Interval → Interval → Interval → Interval → Interval → Type 0
+IsBlended f C D A B R = IsMade (IsValue4 f C D A B) (hull4 f C D A B) R × IsInside R (join C D)
 
 -- the lower end of one interval and the upper end of the other where c is not above d, and else the other end of each
 pub record AreOpposite (c d : ℤ) (A B : Interval) (ends : ℤ × ℤ) : Type 0 where
@@ -320,8 +311,10 @@ pub blended : (f : ℤ → ℤ → ℤ → ℤ → ℤ) → IsBlending f → (I 
     AreOpposite (to_z w64 (of_z w64 I.hi)) (to_z w64 (of_z w64 J.hi)) B A ends' →
     FitsSigned w64 ends.0 → FitsSigned w64 ends.1 → FitsSigned w64 ends'.0 → FitsSigned w64 ends'.1 →
     FitsSigned w64 r → FitsSigned w64 s →
-    r ≡ f (to_z w64 (of_z w64 I.lo)) (to_z w64 (of_z w64 J.lo)) (to_z w64 (of_z w64 ends.0)) (to_z w64 (of_z w64 ends.1)) →
-    s ≡ f (to_z w64 (of_z w64 I.hi)) (to_z w64 (of_z w64 J.hi)) (to_z w64 (of_z w64 ends'.1)) (to_z w64 (of_z w64 ends'.0)) →
+    r ≡ f (to_z w64 (of_z w64 I.lo)) (to_z w64 (of_z w64 J.lo)) (to_z w64 (of_z w64 ends.0))
+    (to_z w64 (of_z w64 ends.1)) →
+    s ≡ f (to_z w64 (of_z w64 I.hi)) (to_z w64 (of_z w64 J.hi)) (to_z w64 (of_z w64 ends'.1))
+    (to_z w64 (of_z w64 ends'.0)) →
     IsBlended f C D A B (record { lo = to_z w64 (of_z w64 r); hi = to_z w64 (of_z w64 s) })
 blended f b I J C D A B ends ends' r s i j o o' h k h' k' fr fs er es =
     let least = least-drawn C.lo D.lo D.lo C.lo (f C.lo D.lo) A B ends.0 ends.1 _ (b.turned C.lo D.lo)
@@ -336,14 +329,11 @@ blended f b I J C D A B ends ends' r s i j o o' h k h' k' fr fs er es =
     (takes_back C.hi D.hi B.lo B.hi _ (takes _ _ B.lo B.hi _ _ _ _ _ i.ends.1 j.ends.1 refl refl o'.first))
     (given4 f _ _ _ _ s C.hi D.hi ends'.1 ends'.0 fs es i.ends.1 j.ends.1 (to_z-of_z w64 ends'.1 k')
     (to_z-of_z w64 ends'.0 h')) in
-    let exact = corners4 f b.rises C D A B _ _ i.band j.band least greatest in
-    record {
-      ordered = hull-ordered _ _ exact;
-      hull = one_hull _ _ (hull4 f C D A B) exact (hull4-exact f C D A B i.band j.band
-          (holds-band A ends.0 o.inside.0) (holds-band B ends.1 o.inside.1) (blending-monotone f b));
-      exact = exact;
-      between = hull-inside_contents f b.between C D A B _ exact;
-    }
+    let exact = corners4 f b.rises C D A B _ _ i.band j.band least greatest in (
+      made _ _ _ exact (hull4-exact f C D A B i.band j.band (holds-band A ends.0 o.inside.0)
+          (holds-band B ends.1 o.inside.1) (blending-monotone f b)),
+      hull-inside_contents f b.between C D A B _ exact,
+    )
 
 -- and that of an operation with two arguments exchanged is the same
 exchanged : (f : ℤ → ℤ → ℤ → ℤ → ℤ) (C D M N : Interval) (z : ℤ) → IsValue4 (λ c d n m. f c d m n) C D N M z →
@@ -353,19 +343,16 @@ exchanged f C D M N z v = (v.0, v.1, (v.2.0, v.2.1, (v.2.2.2.0, v.2.2.2.1, (v.2.
 pub blended-exchanged : (f : ℤ → ℤ → ℤ → ℤ → ℤ) (C D M N R : Interval) → IsMonotone4 f →
     IsBlended (λ c d n m. f c d m n) C D N M R → IsBlended f C D M N R
 blended-exchanged f C D M N R monotone b =
-    let at : IsValue4 f C D M N R.lo = exchanged f C D M N R.lo b.exact.low in
+    let at : IsValue4 f C D M N R.lo = exchanged f C D M N R.lo b.0.exact.low in
     let exact : IsHull (IsValue4 f C D M N) R = record {
-      holds = λ z v. b.exact.holds z (exchanged (λ c d n m. f c d m n) C D N M z v);
+      holds = λ z v. b.0.exact.holds z (exchanged (λ c d n m. f c d m n) C D N M z v);
       low = at;
-      high = exchanged f C D M N R.hi b.exact.high;
-    } in
-    record {
-      ordered = b.ordered;
-      hull = one_hull _ _ (hull4 f C D M N) exact (hull4-exact f C D M N (holds-band C _ at.1) (holds-band D _ at.2.1)
-          (holds-band M _ at.2.2.1) (holds-band N _ at.2.2.2.1) monotone);
-      exact = exact;
-      between = b.between;
-    }
+      high = exchanged f C D M N R.hi b.0.exact.high;
+    } in (
+      made _ _ _ exact (hull4-exact f C D M N (holds-band C _ at.1) (holds-band D _ at.2.1) (holds-band M _ at.2.2.1)
+          (holds-band N _ at.2.2.2.1) monotone),
+      b.1,
+    )
 
 -- a stage is drawn by its two flows
 pub tray-drawn : (r : Rounding) (holdup slope x xa yb : ℤ) →

@@ -21,10 +21,10 @@ made c =
     (search rules) (search rules) (search rules) (search rules) (search rules) (search rules) c.blend.ensures.value c.blend-2.ensures.value
 
 pub invariant_of-result : goal.invariant_of-result
-invariant_of-result c = (made c).ordered
+invariant_of-result c = (made c).0.ordered
 
 pub returns : goal.returns
-returns c = let m = made c in record { hull = m.hull; exact = m.exact; between = m.between }
+returns c = let m = made c in record { hull = m.0.hull; exact = m.0.exact; between = m.1 }
 
 pub blend-requires : goal.blend-requires
 blend-requires c = record { old = search rules; added = search rules; volume = search rules }

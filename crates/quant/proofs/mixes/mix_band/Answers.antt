@@ -22,10 +22,10 @@ made c =
     (search rules) (search rules) (search rules) (search rules) (search rules) (search rules) c.mix.ensures.value c.mix-2.ensures.value)
 
 pub invariant_of-result : goal.invariant_of-result
-invariant_of-result c = (made c).ordered
+invariant_of-result c = (made c).0.ordered
 
 pub returns : goal.returns
-returns c = let m = made c in record { hull = m.hull; exact = m.exact; between = m.between }
+returns c = let m = made c in record { hull = m.0.hull; exact = m.0.exact; between = m.1 }
 
 pub mix-requires : goal.mix-requires
 mix-requires c = search rules

@@ -19,10 +19,10 @@ made c =
     (search rules) (search rules) (search rules) (search rules) c.keep.ensures.value c.keep-2.ensures.value
 
 pub invariant_of-result : goal.invariant_of-result
-invariant_of-result c = (made c).ordered
+invariant_of-result c = (made c).0.ordered
 
 pub returns : goal.returns
-returns c = let m = made c in record { hull = m.hull; exact = m.exact; between = m.between }
+returns c = let m = made c in record { hull = m.0.hull; exact = m.0.exact; between = m.1 }
 
 pub keep-requires-2 : goal.keep-requires-2
 keep-requires-2 c = read-high _ _ contents c.a.view_is c.a.invariant (search rules) c.requires
