@@ -110,8 +110,8 @@ drawn-hull c d f A x y p q h b t s e g =
       high = (y, high.holds, sym g);
     }
 
--- what shares its first argument out: it rises with it, the second draws it by the sign of the first, and it lies from 0
--- to the first
+-- what shares its first argument out: it rises with it, the second draws it by the sign of the first, and it lies from
+-- 0 to the first
 pub record IsSharing (f : ℤ → ℤ → ℤ) (C D : ℤ → ℤ) : Type 0 where
   pub rises : (a b g : ℤ) → a ≤ℤ b → f a g ≤ℤ f b g
   pub drawn : (a : ℤ) → IsDrawn (C a) (D a) (f a)
