@@ -1,3 +1,4 @@
 pub mod Mixers
+pub mod Ranges
 pub mod Reactors
 pub mod Vessels

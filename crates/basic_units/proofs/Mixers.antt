@@ -1,17 +1,16 @@
 -- What the row of a mixer holds, and what one more stream adds.
-use Rattle.std.proofs.Common.{◌≡◌, ℕ, zero, suc, ◌+◌, ◌-◌, ◌*◌, ◌<◌, ◌≤◌, ℤ, pos, ◌+ℤ◌, List, [], ◌∷◌, length, get_or, refl, sym, ap, subst, ◌∙◌, arith, to_z, of_z, lit<}
+use Rattle.std.proofs.Common.{◌≡◌, ℕ, zero, suc, ◌+◌, ◌-◌, ◌*◌, ◌<◌, ◌≤◌, ℤ, pos, ◌+ℤ◌, List, [], ◌∷◌, length, get_or, refl, sym, ap, subst, ◌∙◌, arith, lit<}
 use Rattle.std.proofs.lemmas.Int.{ints}
 use Rattle.std.specs.Prelude.{slice_index_or}
 use Rattle.quant.specs.Interval.{Interval, Holds, IsInside, AllHold, AllInside, wide, widest, point}
 use Rattle.quant.specs.Limits.{wide_from}
 use Rattle.quant.specs.Hull.{hull2, hull4, IsHull, IsValue2}
 use Rattle.quant.specs.Rounding.{Floor}
-use Rattle.quant.specs.Operation.{mix, flows, contents}
+use Rattle.quant.specs.Operation.{mix}
 use Rattle.quant.specs.Term.{value, interval}
-use Rattle.quant.proofs.Calls.{read-inside, held-length, inside-length}
+use Rattle.quant.proofs.Calls.{read-inside, inside-length}
 use Rattle.quant.proofs.Terms.{place-holds, place-inside}
 use Rattle.basic_units.specs.Mixer.{flow_of, content_of, streams}
-use Rattle.std.specs.Int.{w64}
 
 -- the limits of one stream, at their places
 abbrev stream : List Interval
@@ -60,6 +59,19 @@ pub record AreChannels (ins : List ℤ) (i : ℕ) : Type 0 where
   pub conc : Holds wide (slice_index_or ins (3 * i + 1) (pos 0))
   pub temp : Holds wide (slice_index_or ins (3 * i + 2) (pos 0))
 
+pub record AreChannelBands (A B C : Interval) : Type 0 where
+  pub flow : IsInside A (wide_from (pos 0))
+  pub conc : IsInside B wide
+  pub temp : IsInside C wide
+
+pub channels-inside : (n i : ℕ) (ins : List Interval) (A B C : Interval) → AllInside ins (streams n) → i < n →
+    A ≡ get_or ins (3 * i) A → B ≡ get_or ins (3 * i + 1) B → C ≡ get_or ins (3 * i + 2) C → AreChannelBands A B C
+channels-inside n i ins A B C h k e d t = record {
+  flow = channel-inside n i 0 (3 * i) ins A h k (lit< tt) (omega arith) e;
+  conc = channel-inside n i 1 (3 * i + 1) ins B h k (lit< tt) refl d;
+  temp = channel-inside n i 2 (3 * i + 2) ins C h k (lit< tt) refl t;
+}
+
 pub channels-held : (n i : ℕ) (ins : List ℤ) → AllHold (streams n) ins → i < n → AreChannels ins i
 channels-held n i ins h k = record {
   flow = channel-held n i 0 (3 * i) ins h k (lit< tt) (omega arith);
@@ -67,26 +79,9 @@ channels-held n i ins h k = record {
   temp = channel-held n i 2 (3 * i + 2) ins h k (lit< tt) refl;
 }
 
-pub flow-read : (z : ℤ) → Holds (wide_from (pos 0)) z → Holds flows (to_z w64 (of_z w64 z))
-flow-read z h = record { above = omega (arith, ints); below = omega (arith, ints) }
-
-pub content-read : (z : ℤ) → Holds wide z → Holds contents (to_z w64 (of_z w64 z))
-content-read z h = record { above = omega (arith, ints); below = omega (arith, ints) }
-
-pub flow-inside : (A : Interval) → IsInside A (wide_from (pos 0)) → IsInside A flows
-flow-inside A h = record { above = omega (arith, ints); below = omega (arith, ints) }
-
-pub content-inside : (A : Interval) → IsInside A wide → IsInside A contents
-content-inside A h = record { above = omega (arith, ints); below = omega (arith, ints) }
-
 -- and their places are there
-pub channel-room : (n i channel : ℕ) (ins : List ℤ) → AllHold (streams n) ins → i < n → channel < 3 →
-    3 * i + channel < length ins
-channel-room n i c ins h k l = omega (arith, held-length (streams n) ins h, streams-length n)
-
-pub channel-room_bands : (n i channel : ℕ) (ins : List Interval) → AllInside ins (streams n) → i < n → channel < 3 →
-    3 * i + channel < length ins
-channel-room_bands n i c ins h k l = omega (arith, inside-length ins (streams n) h, streams-length n)
+pub channel-room : (n i channel count : ℕ) → count ≡ length (streams n) → i < n → channel < 3 → 3 * i + channel < count
+channel-room n i c count e k l = omega (arith, streams-length n)
 
 -- the flows of n streams together
 abbrev pub flows_of : ℕ → Interval

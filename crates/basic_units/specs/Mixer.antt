@@ -2,8 +2,8 @@
 use Rattle.std.specs.Prelude.{ℕ, zero, suc, ◌+◌, ◌-◌, ◌*◌, ◌≤◌, pos, List, [], ◌∷◌}
 use Rattle.quant.specs.Interval.{Interval, wide}
 use Rattle.quant.specs.Limits.{AreLimits, wide_from}
+use Rattle.quant.specs.Ports.{stream_limits}
 use Rattle.quant.specs.Term.{Term, input, sum, mix_of, clamped}
-use Rattle.basic_units.specs.Stream.{stream_limits}
 use Rattle.basic_units.specs.declared.mixer.Mixer.{Mixer}
 
 -- the flow of the first stream and n further ones

@@ -3,8 +3,8 @@ use Rattle.std.specs.Prelude.{pos, List, [], ◌∷◌}
 use Rattle.quant.specs.Interval.{Interval, Holds, wide}
 use Rattle.quant.specs.Operation.{million, ppm, gains}
 use Rattle.quant.specs.Limits.{AreLimits, wide_from}
+use Rattle.quant.specs.Ports.{stream_limits}
 use Rattle.quant.specs.Term.{Term, input, number, sum, share_of, rest_of, gain_of, blend_of, lookup_of, clamped}
-use Rattle.basic_units.specs.Stream.{stream_limits}
 use Rattle.basic_units.specs.Vessel.{temp, volume_after, outflow, blended, warmed, states_of, vessel_limits, stream_out, level}
 use Rattle.basic_units.specs.declared.reactor.Reactor.{Reactor}
 
@@ -27,9 +27,8 @@ reacted reactor = rest_of blended (reacting reactor)
 abbrev pub jacketed : Reactor → Term
 jacketed reactor = blend_of (heated reactor) jacket (number reactor.ua) (number million)
 
--- Its states at the next tick. The outflow leaves, and the inflow takes the place of as much of the contents; of
--- these the
--- rate reacts and heats; of the heated contents ua takes the temperature of the jacket.
+-- Its states at the next tick. The outflow leaves, and the inflow takes the place of as much of the contents; of these
+-- the rate reacts and heats; of the heated contents ua takes the temperature of the jacket.
 abbrev pub next_terms : Reactor → List Term
 next_terms reactor = states_of reactor.limits (volume_after reactor.k) (outflow reactor.k) (reacted reactor)
     (jacketed reactor)

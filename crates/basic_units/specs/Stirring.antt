@@ -1,4 +1,5 @@
--- Words for the contracts of private functions alone: what a vessel's rows hold, as far as its steps need it.
+-- Words of the proofs: a reader of the contracts needs none of them.
+-- What a vessel's rows hold, as far as its steps need it.
 use Rattle.std.specs.Prelude.{◌≤◌, ℤ, pos, List, length, slice_index_or}
 use Rattle.quant.specs.Interval.{Interval, Holds, IsInside, wide, point}
 use Rattle.quant.specs.Limits.{wide_from}

@@ -3,13 +3,12 @@ use Rattle.std.specs.Prelude.{pos, List, [], ◌∷◌}
 use Rattle.quant.specs.Interval.{Interval, Holds, wide}
 use Rattle.quant.specs.Operation.{ppm}
 use Rattle.quant.specs.Limits.{AreLimits, wide_from}
+use Rattle.quant.specs.Ports.{stream_limits}
 use Rattle.quant.specs.Term.{Term}
-use Rattle.basic_units.specs.Stream.{stream_limits}
 use Rattle.basic_units.specs.Vessel.{volume_after, outflow, blended, warmed, states_of, vessel_limits, stream_out, level}
 use Rattle.basic_units.specs.declared.tank.Tank.{Tank}
 
--- Its states at the next tick. The outflow leaves, the inflow comes in, and the inflow takes the place of as much of
--- the
+-- Its states at the next tick. The outflow leaves, and the inflow comes in and takes the place of as much of the
 -- contents.
 abbrev pub next_terms : Tank → List Term
 next_terms tank = states_of tank.limits (volume_after tank.k) (outflow tank.k) blended warmed

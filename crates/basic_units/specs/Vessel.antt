@@ -3,7 +3,7 @@ use Rattle.std.specs.Prelude.{ℤ, List, [], ◌∷◌}
 use Rattle.quant.specs.declared.limits.Limits.{Limits}
 use Rattle.quant.specs.Interval.{Interval}
 use Rattle.quant.specs.Term.{Term, state, input, number, sum, share_of, rest_of, blend_of, clamped}
-use Rattle.basic_units.specs.Stream.{in_flow, in_conc, in_temp}
+use Rattle.basic_units.specs.Stream.{inflow}
 
 -- the states in order
 abbrev pub volume : Term
@@ -28,17 +28,17 @@ drained k = share_of (number k) valve
 
 -- the outflow leaves, and the inflow comes in
 abbrev pub volume_after : ℤ → Term
-volume_after k = sum (rest_of volume (drained k)) in_flow
+volume_after k = sum (rest_of volume (drained k)) inflow.flow
 
 abbrev pub outflow : ℤ → Term
 outflow k = share_of volume (drained k)
 
 -- the inflow takes the place of as much of the contents
 abbrev pub blended : Term
-blended = blend_of conc in_conc in_flow volume
+blended = blend_of conc inflow.conc inflow.flow volume
 
 abbrev pub warmed : Term
-warmed = blend_of temp in_temp in_flow volume
+warmed = blend_of temp inflow.temp inflow.flow volume
 
 -- the states at the next tick, each by its limits
 abbrev pub states_of : Limits → Term → Term → Term → Term → List Term

@@ -14,10 +14,6 @@ pub struct Mixer {
 
 impl Instant for Mixer {
     ghost use Rattle.std.specs.Prelude.{◌≡◌, [], flat_map};
-    ghost use Rattle.quant.specs.Interval.{AllHold, AllInside};
-    ghost use Rattle.quant.specs.Rounding.{Floor};
-    ghost use Rattle.quant.specs.Term.{values, intervals};
-    ghost use Rattle.quant.proofs.Terms.{intervals-hold, intervals-inside, intervals-points};
     ghost use Rattle.quant.specs.Ports.{outputs};
     ghost use Rattle.basic_units.specs.Mixer.{IsSound, now_terms, output_limits, streams};
     ghost use Rattle.basic_units.specs.MixerLaws.{now-limited};
@@ -26,13 +22,9 @@ impl Instant for Mixer {
 
     ghost output_limits = { λ mixer. outputs (output_limits mixer) };
 
-    ghost may_take = { λ mixer ins. AllHold (streams mixer.inputs) ins };
+    ghost input_limits = { λ mixer. streams mixer.inputs };
 
-    ghost may_take_bands = { λ mixer ins. AllInside ins (streams mixer.inputs) };
-
-    ghost now = { λ mixer. values Floor (outputs (now_terms mixer)) [] };
-
-    ghost now_hull = { λ mixer. intervals Floor (outputs (now_terms mixer)) [] };
+    ghost now_terms = { λ mixer. outputs (now_terms mixer) };
 
     fn now_point(&self, ins: &[i64], outs: &mut [i64]) {
         let mut flow = ins[0];
@@ -63,12 +55,6 @@ impl Instant for Mixer {
         outs[1] = clamp_band(conc, self.limits.conc);
         outs[2] = clamp_band(temp, self.limits.temp);
     }
-
-    ghost now_includes = { λ mixer inputs ins h. intervals-hold Floor (outputs (now_terms mixer)) [] inputs [] ins tt h };
-
-    ghost now_narrows = { λ mixer inputs wider_inputs i h. intervals-inside Floor (outputs (now_terms mixer)) [] inputs [] wider_inputs tt i tt h };
-
-    ghost now_at_points = { λ mixer ins. intervals-points Floor (outputs (now_terms mixer)) [] ins };
 
     ghost now_limited = { now-limited };
 }

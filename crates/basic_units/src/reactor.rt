@@ -26,9 +26,6 @@ pub struct Reactor {
 impl Kind for Reactor {
     ghost use Rattle.std.specs.Prelude.{◌≡◌, [], flat_map};
     ghost use Rattle.quant.specs.Interval.{AllHold, AllInside};
-    ghost use Rattle.quant.specs.Rounding.{Floor};
-    ghost use Rattle.quant.specs.Term.{values, intervals};
-    ghost use Rattle.quant.proofs.Terms.{intervals-hold, intervals-inside, intervals-points};
     ghost use Rattle.quant.specs.Ports.{outputs};
     ghost use Rattle.basic_units.specs.Reactor.{IsSound, next_terms, view_terms, state_limits, output_limits, input_limits};
     ghost use Rattle.basic_units.specs.ReactorLaws.{next-limited, view-limited};
@@ -43,13 +40,9 @@ impl Kind for Reactor {
 
     ghost may_take_bands = { λ _ ins. AllInside ins input_limits };
 
-    ghost next = { λ reactor. values Floor (next_terms reactor) };
+    ghost next_terms = { next_terms };
 
-    ghost next_hull = { λ reactor. intervals Floor (next_terms reactor) };
-
-    ghost view = { λ reactor states. values Floor (outputs (view_terms reactor)) states [] };
-
-    ghost view_hull = { λ reactor states. intervals Floor (outputs (view_terms reactor)) states [] };
+    ghost view_terms = { λ reactor. outputs (view_terms reactor) };
 
     fn next_point(&self, state: &[i64], ins: &[i64], new: &mut [i64]) {
         let stirred = stir_point(self.k, state, ins);
@@ -91,18 +84,6 @@ impl Kind for Reactor {
         show_band(state, &self.limits, shown);
         temp[0] = clamp_band(state[3], self.limits.signal);
     }
-
-    ghost next_includes = { λ reactor states inputs state ins h k. intervals-hold Floor (next_terms reactor) states inputs state ins h k };
-
-    ghost view_includes = { λ reactor states state h. intervals-hold Floor (outputs (view_terms reactor)) states [] state [] h tt };
-
-    ghost next_narrows = { λ reactor states inputs wider_states wider_inputs s i h k. intervals-inside Floor (next_terms reactor) states inputs wider_states wider_inputs s i h k };
-
-    ghost view_narrows = { λ reactor states wider_states s h. intervals-inside Floor (outputs (view_terms reactor)) states [] wider_states [] s tt h tt };
-
-    ghost next_at_points = { λ reactor state ins. intervals-points Floor (next_terms reactor) state ins };
-
-    ghost view_at_points = { λ reactor state. intervals-points Floor (outputs (view_terms reactor)) state [] };
 
     ghost next_limited = { next-limited };
 

@@ -13,10 +13,6 @@ pub struct Splitter {
 
 impl Instant for Splitter {
     ghost use Rattle.std.specs.Prelude.{◌≡◌, [], flat_map};
-    ghost use Rattle.quant.specs.Interval.{AllHold, AllInside};
-    ghost use Rattle.quant.specs.Rounding.{Floor};
-    ghost use Rattle.quant.specs.Term.{values, intervals};
-    ghost use Rattle.quant.proofs.Terms.{intervals-hold, intervals-inside, intervals-points};
     ghost use Rattle.quant.specs.Ports.{outputs};
     ghost use Rattle.basic_units.specs.Splitter.{IsSound, now_terms, output_limits, input_limits};
     ghost use Rattle.basic_units.specs.SplitterLaws.{now-limited};
@@ -25,42 +21,26 @@ impl Instant for Splitter {
 
     ghost output_limits = { λ splitter. outputs (output_limits splitter) };
 
-    ghost may_take = { λ _ ins. AllHold input_limits ins };
+    ghost input_limits = { λ _. input_limits };
 
-    ghost may_take_bands = { λ _ ins. AllInside ins input_limits };
-
-    ghost now = { λ splitter. values Floor (outputs (now_terms splitter)) [] };
-
-    ghost now_hull = { λ splitter. intervals Floor (outputs (now_terms splitter)) [] };
+    ghost now_terms = { λ splitter. outputs (now_terms splitter) };
 
     fn now_point(&self, ins: &[i64], outs: &mut [i64]) {
         let conc = clamp(ins[1], self.limits.conc);
         let temp = clamp(ins[2], self.limits.temp);
-        outs[0] = clamp(share(ins[0], self.share), self.limits.flow);
-        outs[1] = conc;
-        outs[2] = temp;
-        outs[3] = clamp(keep(ins[0], self.share), self.limits.flow);
-        outs[4] = conc;
-        outs[5] = temp;
+        let first = clamp(share(ins[0], self.share), self.limits.flow);
+        let second = clamp(keep(ins[0], self.share), self.limits.flow);
+        outs.copy_from_slice(&[first, conc, temp, second, conc, temp]);
     }
 
     fn now_band(&self, ins: &[Band], outs: &mut [Band]) {
         let share = Band::point(self.share);
         let conc = clamp_band(ins[1], self.limits.conc);
         let temp = clamp_band(ins[2], self.limits.temp);
-        outs[0] = clamp_band(share_band(ins[0], share), self.limits.flow);
-        outs[1] = conc;
-        outs[2] = temp;
-        outs[3] = clamp_band(keep_band(ins[0], share), self.limits.flow);
-        outs[4] = conc;
-        outs[5] = temp;
+        let first = clamp_band(share_band(ins[0], share), self.limits.flow);
+        let second = clamp_band(keep_band(ins[0], share), self.limits.flow);
+        outs.copy_from_slice(&[first, conc, temp, second, conc, temp]);
     }
-
-    ghost now_includes = { λ splitter inputs ins h. intervals-hold Floor (outputs (now_terms splitter)) [] inputs [] ins tt h };
-
-    ghost now_narrows = { λ splitter inputs wider_inputs i h. intervals-inside Floor (outputs (now_terms splitter)) [] inputs [] wider_inputs tt i tt h };
-
-    ghost now_at_points = { λ splitter ins. intervals-points Floor (outputs (now_terms splitter)) [] ins };
 
     ghost now_limited = { now-limited };
 }

@@ -16,10 +16,7 @@ pub struct Tank {
 impl Kind for Tank {
     ghost use Rattle.std.specs.Prelude.{◌≡◌, [], flat_map};
     ghost use Rattle.quant.specs.Interval.{AllHold, AllInside};
-    ghost use Rattle.quant.specs.Rounding.{Floor};
     ghost use Rattle.quant.specs.Ports.{outputs};
-    ghost use Rattle.quant.specs.Term.{values, intervals};
-    ghost use Rattle.quant.proofs.Terms.{intervals-hold, intervals-inside, intervals-points};
     ghost use Rattle.basic_units.specs.Tank.{IsSound, next_terms, view_terms, state_limits, output_limits, input_limits};
     ghost use Rattle.basic_units.specs.TankLaws.{next-limited, view-limited};
 
@@ -33,13 +30,9 @@ impl Kind for Tank {
 
     ghost may_take_bands = { λ _ ins. AllInside ins input_limits };
 
-    ghost next = { λ tank. values Floor (next_terms tank) };
+    ghost next_terms = { next_terms };
 
-    ghost next_hull = { λ tank. intervals Floor (next_terms tank) };
-
-    ghost view = { λ tank states. values Floor (outputs (view_terms tank)) states [] };
-
-    ghost view_hull = { λ tank states. intervals Floor (outputs (view_terms tank)) states [] };
+    ghost view_terms = { λ tank. outputs (view_terms tank) };
 
     fn next_point(&self, state: &[i64], ins: &[i64], new: &mut [i64]) {
         put_point(&stir_point(self.k, state, ins), &self.limits, new);
@@ -56,18 +49,6 @@ impl Kind for Tank {
     fn view_band(&self, state: &[Band], outs: &mut [Band]) {
         show_band(state, &self.limits, outs);
     }
-
-    ghost next_includes = { λ tank states inputs state ins h k. intervals-hold Floor (next_terms tank) states inputs state ins h k };
-
-    ghost view_includes = { λ tank states state h. intervals-hold Floor (outputs (view_terms tank)) states [] state [] h tt };
-
-    ghost next_narrows = { λ tank states inputs wider_states wider_inputs s i h k. intervals-inside Floor (next_terms tank) states inputs wider_states wider_inputs s i h k };
-
-    ghost view_narrows = { λ tank states wider_states s h. intervals-inside Floor (outputs (view_terms tank)) states [] wider_states [] s tt h tt };
-
-    ghost next_at_points = { λ tank state ins. intervals-points Floor (next_terms tank) state ins };
-
-    ghost view_at_points = { λ tank state. intervals-points Floor (outputs (view_terms tank)) state [] };
 
     ghost next_limited = { next-limited };
 

@@ -12,7 +12,7 @@ use Rattle.quant.proofs.Hulls.{inside-holds}
 use Rattle.quant.proofs.Calls.{held-length, inside-length, inside-trans, read-inside}
 use Rattle.quant.proofs.Terms.{place-holds, place-inside}
 use Rattle.column_section.specs.declared.column.Column.{Column}
-use Rattle.column_section.specs.Column.{IsSound, stages_of, above, below, liquid_conc, vapour_conc, stage, state_limits, register_limits, input_limits}
+use Rattle.column_section.specs.Column.{IsSound, stages_of, above, below, liquid, vapour, stage, state_limits, register_limits, input_limits}
 use Rattle.column_section.specs.ColumnLaws.{stage-limits}
 
 -- how many states there are
@@ -29,6 +29,15 @@ states-length column xs h = held-length (state_limits column) xs h ∙ limits-le
 pub bands-length : (column : Column) (xs : List Interval) → AllInside xs (state_limits column) →
     length xs ≡ column.stages + 4
 bands-length column xs h = inside-length xs (state_limits column) h ∙ limits-length column
+
+-- so each place before that number is there
+pub state-there : (column : Column) (xs : List ℤ) (n : ℕ) → AllHold (state_limits column) xs → n < column.stages + 4 →
+    n < length xs
+state-there column xs n h k = omega (arith, states-length column xs h)
+
+pub band-there : (column : Column) (xs : List Interval) (n : ℕ) → AllInside xs (state_limits column) →
+    n < column.stages + 4 → n < length xs
+band-there column xs n h k = omega (arith, bands-length column xs h)
 
 -- each stage's conc lies where its limits may
 pub state-held : (column : Column) (xs : List ℤ) (i : ℕ) → IsSound column → AllHold (state_limits column) xs →
@@ -53,7 +62,7 @@ input-inside xs n r h b e =
     read-inside xs n r _ (omega arith) e (place-inside xs input_limits n h)
 
 -- what comes to a stage from above and from below
-pub above-first : (i : ℕ) → i ≡ 0 → above i ≡ liquid_conc
+pub above-first : (i : ℕ) → i ≡ 0 → above i ≡ liquid.conc
 above-first zero e = refl
 above-first (suc i) e = absurd (omega arith)
 
@@ -63,11 +72,11 @@ above-later (suc i) h = ap state (omega arith)
 
 pub below-middle : (column : Column) (i : ℕ) → i + 1 < column.stages →
     below column i ≡ gain_of column.slope (state (i + 1))
-below-middle column i h = ap (λ b. if b then gain_of column.slope (state (i + 1)) else vapour_conc)
+below-middle column i h = ap (λ b. if b then gain_of column.slope (state (i + 1)) else vapour.conc)
     (lt-ltb (i + 1) column.stages h)
 
-pub below-last : (column : Column) (i : ℕ) → column.stages ≤ i + 1 → below column i ≡ vapour_conc
-below-last column i h = ap (λ b. if b then gain_of column.slope (state (i + 1)) else vapour_conc)
+pub below-last : (column : Column) (i : ℕ) → column.stages ≤ i + 1 → below column i ≡ vapour.conc
+below-last column i h = ap (λ b. if b then gain_of column.slope (state (i + 1)) else vapour.conc)
     (le-ltb (i + 1) column.stages h)
 
 -- stages that are filled one by one are all the stages

@@ -4,27 +4,16 @@ use Rattle.std.specs.List.{range_with_len}
 use Rattle.quant.specs.Interval.{Interval, Holds, AllHold, AllInside, point, wide}
 use Rattle.quant.specs.Operation.{holdups, slopes, IsDrainable}
 use Rattle.quant.specs.Limits.{AreLimits, wide_from}
-use Rattle.quant.specs.Term.{Term, state, input, gain_of, tray_of, clamped}
+use Rattle.quant.specs.Ports.{Stream, stream_at, stream_limits}
+use Rattle.quant.specs.Term.{Term, state, gain_of, tray_of, clamped}
 use Rattle.column_section.specs.declared.column.Column.{Column}
 
--- its inputs in order: the channels of the liquid and of the vapour that come in
-abbrev pub liquid_flow : Term
-liquid_flow = input 0
+-- its inputs in order: the liquid that comes in at the top, and the vapour that comes in at the bottom
+abbrev pub liquid : Stream
+liquid = stream_at 0
 
-abbrev pub liquid_conc : Term
-liquid_conc = input 1
-
-abbrev pub liquid_temp : Term
-liquid_temp = input 2
-
-abbrev pub vapour_flow : Term
-vapour_flow = input 3
-
-abbrev pub vapour_conc : Term
-vapour_conc = input 4
-
-abbrev pub vapour_temp : Term
-vapour_temp = input 5
+abbrev pub vapour : Stream
+vapour = stream_at 3
 
 -- its stages from top to bottom, of which each is the state at its place
 abbrev pub stages_of : Column → List ℕ
@@ -32,23 +21,23 @@ stages_of column = range_with_len 0 column.stages
 
 -- the liquid that comes to a stage: from the stage above, or from outside
 abbrev pub above : ℕ → Term
-above zero = liquid_conc
+above zero = liquid.conc
 above (suc i) = state i
 
 -- the vapour that comes to a stage: from the stage below, or from outside
 abbrev pub below : Column → ℕ → Term
-below column i = if nat_lt (i + 1) column.stages then gain_of column.slope (state (i + 1)) else vapour_conc
+below column i = if nat_lt (i + 1) column.stages then gain_of column.slope (state (i + 1)) else vapour.conc
 
 -- a stage at the next tick
 abbrev pub stage : Column → ℕ → Term
 stage column i = clamped column.limits.conc (tray_of column.holdup column.slope (state i) (above i)
-    (below column i) liquid_flow vapour_flow)
+    (below column i) liquid.flow vapour.flow)
 
 -- what leaves at the next tick has the flow and the temp of what comes in
 abbrev pub registers : Column → List Term
 registers column =
-    clamped column.limits.flow liquid_flow ∷ clamped column.limits.temp liquid_temp
-    ∷ clamped column.limits.flow vapour_flow ∷ clamped column.limits.temp vapour_temp ∷ []
+    clamped column.limits.flow liquid.flow ∷ clamped column.limits.temp liquid.temp
+    ∷ clamped column.limits.flow vapour.flow ∷ clamped column.limits.temp vapour.temp ∷ []
 
 abbrev pub next_terms : Column → List Term
 next_terms column = map (stage column) (stages_of column) ++ registers column
@@ -67,9 +56,7 @@ abbrev pub state_limits : Column → List Interval
 state_limits column = map (λ i. column.limits.conc) (stages_of column) ++ register_limits column
 
 abbrev pub output_limits : Column → List (List Interval)
-output_limits column =
-    (column.limits.flow ∷ column.limits.conc ∷ column.limits.temp ∷ [])
-    ∷ (column.limits.flow ∷ column.limits.conc ∷ column.limits.temp ∷ []) ∷ []
+output_limits column = stream_limits column.limits ∷ stream_limits column.limits ∷ []
 
 -- where its inputs may lie: no flow is negative
 abbrev pub input_limits : List Interval

@@ -26,10 +26,7 @@ pub struct Column {
 
 impl Kind for Column {
     ghost use Rattle.std.specs.Prelude.{◌≡◌, []};
-    ghost use Rattle.quant.specs.Rounding.{Floor};
     ghost use Rattle.quant.specs.Ports.{outputs};
-    ghost use Rattle.quant.specs.Term.{values, intervals};
-    ghost use Rattle.quant.proofs.Terms.{intervals-hold, intervals-inside, intervals-points};
     ghost use Rattle.column_section.specs.Column.{IsSound, MayTake, MayTakeBands, next_terms, view_terms, state_limits, output_limits};
     ghost use Rattle.column_section.specs.ColumnLaws.{next-limited, view-limited};
 
@@ -43,13 +40,9 @@ impl Kind for Column {
 
     ghost may_take_bands = { MayTakeBands };
 
-    ghost next = { λ column. values Floor (next_terms column) };
+    ghost next_terms = { next_terms };
 
-    ghost next_hull = { λ column. intervals Floor (next_terms column) };
-
-    ghost view = { λ column states. values Floor (outputs (view_terms column)) states [] };
-
-    ghost view_hull = { λ column states. intervals Floor (outputs (view_terms column)) states [] };
+    ghost view_terms = { λ column. outputs (view_terms column) };
 
     fn next_point(&self, state: &[i64], ins: &[i64], new: &mut [i64]) {
         let (contents, registers) = new.split_at_mut(self.stages as usize);
@@ -82,18 +75,6 @@ impl Kind for Column {
         outs[4] = clamp_band(gain_band(state[0], self.slope), self.limits.conc);
         outs[5] = state[stages + 3];
     }
-
-    ghost next_includes = { λ column states inputs state ins h k. intervals-hold Floor (next_terms column) states inputs state ins h k };
-
-    ghost view_includes = { λ column states state h. intervals-hold Floor (outputs (view_terms column)) states [] state [] h tt };
-
-    ghost next_narrows = { λ column states inputs wider_states wider_inputs s i h k. intervals-inside Floor (next_terms column) states inputs wider_states wider_inputs s i h k };
-
-    ghost view_narrows = { λ column states wider_states s h. intervals-inside Floor (outputs (view_terms column)) states [] wider_states [] s tt h tt };
-
-    ghost next_at_points = { λ column state ins. intervals-points Floor (next_terms column) state ins };
-
-    ghost view_at_points = { λ column state. intervals-points Floor (outputs (view_terms column)) state [] };
 
     ghost next_limited = { next-limited };
 

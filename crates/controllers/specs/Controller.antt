@@ -24,8 +24,7 @@ abbrev pub error : Term
 error = difference set measured
 
 -- Its states at the next tick: the integral adds its part of the error, and the output is the bias, the proportional
--- part of
--- the error and the integral of this tick.
+-- part of the error and the integral of this tick.
 abbrev pub next_terms : Controller → List Term
 next_terms controller =
     clamped controller.integral_limits (sum integral (gain_of controller.ki error))

@@ -20,9 +20,6 @@ pub struct Controller {
 impl Kind for Controller {
     ghost use Rattle.std.specs.Prelude.{◌≡◌, []};
     ghost use Rattle.quant.specs.Interval.{AllHold, AllInside};
-    ghost use Rattle.quant.specs.Rounding.{Floor};
-    ghost use Rattle.quant.specs.Term.{values, intervals};
-    ghost use Rattle.quant.proofs.Terms.{intervals-hold, intervals-inside, intervals-points};
     ghost use Rattle.controllers.specs.Controller.{IsSound, next_terms, view_terms, state_limits, output_limits, input_limits};
     ghost use Rattle.controllers.specs.ControllerLaws.{next-limited, view-limited};
 
@@ -36,13 +33,9 @@ impl Kind for Controller {
 
     ghost may_take_bands = { λ _ ins. AllInside ins input_limits };
 
-    ghost next = { λ controller. values Floor (next_terms controller) };
+    ghost next_terms = { next_terms };
 
-    ghost next_hull = { λ controller. intervals Floor (next_terms controller) };
-
-    ghost view = { λ _ states. values Floor view_terms states [] };
-
-    ghost view_hull = { λ _ states. intervals Floor view_terms states [] };
+    ghost view_terms = { λ _. view_terms };
 
     fn next_point(&self, state: &[i64], ins: &[i64], new: &mut [i64]) {
         let error = sub(ins[0], ins[1]);
@@ -73,18 +66,6 @@ impl Kind for Controller {
     fn view_band(&self, state: &[Band], outs: &mut [Band]) {
         outs[0] = state[1];
     }
-
-    ghost next_includes = { λ controller states inputs state ins h k. intervals-hold Floor (next_terms controller) states inputs state ins h k };
-
-    ghost view_includes = { λ _ states state h. intervals-hold Floor view_terms states [] state [] h tt };
-
-    ghost next_narrows = { λ controller states inputs wider_states wider_inputs s i h k. intervals-inside Floor (next_terms controller) states inputs wider_states wider_inputs s i h k };
-
-    ghost view_narrows = { λ _ states wider_states s h. intervals-inside Floor view_terms states [] wider_states [] s tt h tt };
-
-    ghost next_at_points = { λ controller state ins. intervals-points Floor (next_terms controller) state ins };
-
-    ghost view_at_points = { λ _ state. intervals-points Floor view_terms state [] };
 
     ghost next_limited = { next-limited };
 

@@ -24,11 +24,13 @@ read-ends I A e h k =
     let same = ends_same I A e in
     (to_z-of_z w64 I.lo h ∙ same.0, to_z-of_z w64 I.hi k ∙ same.1)
 
-pub read-low : (I A B : Interval) → I ≡ A → I.lo ≤ℤ I.hi → FitsSigned w64 I.lo → IsInside A B →
-    Holds B (to_z w64 (of_z w64 I.lo))
-read-low I A B e o h i =
-    let same = ends_same I A e in
-    record { above = omega (arith, ints); below = omega (arith, ints) }
+-- a band that is read: it has a number in it, and its ends come back
+pub record IsRead (I A : Interval) : Type 0 where
+  pub band : IsBand A
+  pub ends : AreEnds I A
+
+pub is_read : (I A : Interval) → I ≡ A → I.lo ≤ℤ I.hi → FitsSigned w64 I.lo → FitsSigned w64 I.hi → IsRead I A
+is_read I A e o h k = record { band = read-band I A e o; ends = read-ends I A e h k }
 
 pub read-high : (I A B : Interval) → I ≡ A → I.lo ≤ℤ I.hi → FitsSigned w64 I.hi → IsInside A B →
     Holds B (to_z w64 (of_z w64 I.hi))

@@ -1,10 +1,10 @@
 -- What code makes of products and sums in 128 bits.
-use Rattle.std.proofs.Common.{◌≡◌, ℕ, ◌*◌, ◌≤◌, ℤ, ◌+ℤ◌, ◌*ℤ◌, FitsSigned, to_z, of_z, arith, ap, ◌∙◌, unsigned_abs}
-use Rattle.std.proofs.lemmas.Int.{ints, unsigned_abs-mul, to_z-of_z}
+use Rattle.std.proofs.Common.{◌≡◌, ℕ, ◌*◌, ◌≤◌, ℤ, ◌+ℤ◌, ◌*ℤ◌, FitsSigned, to_z, of_z, arith, ap, subst, sym, ◌∙◌, unsigned_abs}
+use Rattle.std.proofs.lemmas.Int.{ints, clamps, unsigned_abs-mul, to_z-of_z}
 use Rattle.std.proofs.lemmas.Nat.{mul-le}
-use Rattle.std.specs.Int.{w128}
-use Rattle.quant.specs.Interval.{Interval, Holds, around}
-use Rattle.quant.specs.Operation.{greatest_content, greatest_amount, heaviest}
+use Rattle.std.specs.Int.{w64, w128}
+use Rattle.quant.specs.Interval.{Interval, Holds, around, join, point}
+use Rattle.quant.specs.Operation.{contents, greatest_content, greatest_amount, heaviest}
 
 -- the size of a product
 size-le : (a : ℤ) (m : ℕ) → Holds (around m) a → unsigned_abs a ≤ m
@@ -59,3 +59,23 @@ pub three-back : (p q s : ℤ) → Holds stage_products p → Holds stage_produc
     to_z w128 (of_z w128 (to_z w128 (of_z w128 (to_z w128 (of_z w128 p) +ℤ to_z w128 (of_z w128 q))) +ℤ to_z w128
     (of_z w128 s))) ≡ (p +ℤ q) +ℤ s
 three-back p q s h k i = rw (two-back p q h k) (omega (arith, ints))
+
+-- a quotient that lies between two contents
+pub record IsFound (c d q z : ℤ) : Type 0 where
+  pub held : Holds contents c × Holds contents d
+  pub between : Holds (join (point c) (point d)) z
+  pub same : q ≡ z
+
+-- so it fits 64 bits, and what is read of it is the same and lies there too
+pub found-fits : (c d q z : ℤ) → IsFound c d q z → FitsSigned w64 q
+found-fits c d q z f =
+    let h = f.held.0 in
+    let k = f.held.1 in
+    omega (arith, ints, clamps, f.same)
+
+pub found-read : (c d q z r : ℤ) → r ≡ q → IsFound c d q z →
+    (to_z w64 (of_z w64 r) ≡ z) × Holds (join (point c) (point d)) (to_z w64 (of_z w64 r))
+found-read c d q z r e f =
+    let again : IsFound c d r z = record { held = f.held; between = f.between; same = e ∙ f.same } in
+    let same = to_z-of_z w64 r (found-fits c d r z again) ∙ again.same in
+    (same, subst (Holds (join (point c) (point d))) (sym same) f.between)

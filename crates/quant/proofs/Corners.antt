@@ -3,16 +3,17 @@ use Rattle.std.proofs.Common.{◌≡◌, ℤ, pos, ◌*ℤ◌, ◌≤ℤ◌, Fit
 use Rattle.std.proofs.lemmas.Int.{ints, clamps, to_z-of_z, by_lt_z}
 use Rattle.std.specs.Int.{w64}
 use Rattle.quant.specs.Interval.{Interval, Holds, IsBand, IsInside, join, point}
-use Rattle.quant.specs.Hull.{IsHull, IsValue1, IsValue2, IsValue4, IsValue5}
+use Rattle.quant.specs.Hull.{hull2, hull4, IsHull, IsValue1, IsValue2, IsValue4, IsValue5, IsMonotone2, IsMonotone4}
 use Rattle.quant.specs.Rounding.{Rounding}
-use Rattle.quant.specs.Operation.{blend, mix, tray, million, stage_flows, slopes, IsDrainable}
+use Rattle.quant.specs.Operation.{share, keep, blend, mix, tray, million, stage_flows, slopes, IsDrainable}
 use Rattle.quant.specs.Picks.{IsPicked}
-use Rattle.quant.proofs.Operations.{IsDrawn, blend-part, blend-volume}
+use Rattle.quant.proofs.Bands.{IsRead}
+use Rattle.quant.proofs.Operations.{IsDrawn, rises, monotone4, drawn-monotone, share-rises, share-drawn, share-between, keep-rises, keep-drawn, keep-between, blend-rises, blend-part, blend-volume, blend-between}
 use Rattle.quant.proofs.Calls.{given2, given4}
 use Rattle.quant.proofs.Division.{times-le}
-use Rattle.quant.proofs.Hulls.{holds-band, inside-holds}
+use Rattle.quant.proofs.Hulls.{holds-band, inside-holds, one_hull, hull2-exact, hull4-exact}
 use Rattle.quant.proofs.Stages.{IsPushed, tray-contents, tray-liquid, tray-vapour}
-use Rattle.quant.proofs.Mixing.{mix-first_flow, mix-second_flow}
+use Rattle.quant.proofs.Mixing.{mix-rises, mix-first_flow, mix-second_flow, mix-between}
 
 -- z is the first number, and c is not above d; or it is the second, and c is not below d
 abbrev pub Takes : ℤ → ℤ → ℤ → ℤ → ℤ → Type 0
@@ -84,6 +85,15 @@ drawn-greatest c d f G x h b t =
 pub hull-ordered : (V : ℤ → Type 0) (R : Interval) → IsHull V R → R.lo ≤ℤ R.hi
 hull-ordered V R h = (h.holds R.lo h.low).below
 
+-- an exact hull that was made is the hull over the corners, where this is exact too
+pub record IsMade (V : ℤ → Type 0) (H R : Interval) : Type 0 where
+  pub ordered : R.lo ≤ℤ R.hi
+  pub hull : R ≡ H
+  pub exact : IsHull V R
+
+pub made : (V : ℤ → Type 0) (H R : Interval) → IsHull V R → IsHull V H → IsMade V H R
+made V H R r h = record { ordered = hull-ordered V R r; hull = one_hull V R H r h; exact = r }
+
 -- the hull of what is drawn lies between its values at the two ends
 pub drawn-hull : (c d : ℤ) (f : ℤ → ℤ) (A : Interval) (x y p q : ℤ) → IsDrawn c d f → IsBand A →
     Takes c d A.lo A.hi x → Takes c d A.hi A.lo y → p ≡ f x → q ≡ f y →
@@ -100,29 +110,23 @@ drawn-hull c d f A x y p q h b t s e g =
       high = (y, high.holds, sym g);
     }
 
--- what rises with its first argument, and is drawn by the second, has its hull between its values at these two corners
-pub drawn-hull2 : (f : ℤ → ℤ → ℤ) → ((a b g : ℤ) → a ≤ℤ b → f a g ≤ℤ f b g) → (C D : ℤ → ℤ) →
-    ((a : ℤ) → IsDrawn (C a) (D a) (f a)) →
-    (A G : Interval) (a b x y r s : ℤ) → IsBand A → IsBand G → a ≡ A.lo → b ≡ A.hi →
-    Takes (C A.lo) (D A.lo) G.lo G.hi x → Takes (C A.hi) (D A.hi) G.hi G.lo y →
-    FitsSigned w64 x → FitsSigned w64 y → FitsSigned w64 r → FitsSigned w64 s →
-    r ≡ f a (to_z w64 (of_z w64 x)) → s ≡ f b (to_z w64 (of_z w64 y)) →
-    IsHull (IsValue2 f A G) (record { lo = to_z w64 (of_z w64 r); hi = to_z w64 (of_z w64 s) })
-drawn-hull2 f rises C D drawn A G a b x y r s o g d e t u h k i j m n =
-    let low = drawn-least (C A.lo) (D A.lo) (f A.lo) G x (drawn A.lo) g t in
-    let high = drawn-greatest (C A.hi) (D A.hi) (f A.hi) G y (drawn A.hi) g u in
-    let p : to_z w64 (of_z w64 r) ≡ f A.lo x = given2 f a _ r A.lo x i m d (to_z-of_z w64 x h) in
-    let q : to_z w64 (of_z w64 s) ≡ f A.hi y = given2 f b _ s A.hi y j n e (to_z-of_z w64 y k) in
-    record {
-      holds = λ z v. record {
-        above = omega (arith, ints, p, low.least v.2.0 v.2.1, rises A.lo v.0 v.2.0 v.1.above, v.2.2);
-        below = omega (arith, ints, q, high.greatest v.2.0 v.2.1, rises v.0 A.hi v.2.0 v.1.below, v.2.2);
-      };
-      low = (A.lo, low-holds A A.lo o refl, (x, low.holds, sym p));
-      high = (A.hi, high-holds A A.hi o refl, (y, high.holds, sym q));
-    }
+-- what shares its first argument out: it rises with it, the second draws it by the sign of the first, and it lies from
+-- 0 to the first
+pub record IsSharing (f : ℤ → ℤ → ℤ) (C D : ℤ → ℤ) : Type 0 where
+  pub rises : (a b g : ℤ) → a ≤ℤ b → f a g ≤ℤ f b g
+  pub drawn : (a : ℤ) → IsDrawn (C a) (D a) (f a)
+  pub between : (a g : ℤ) → Holds (join (point (pos 0)) (point a)) (f a g)
 
--- what lies between 0 and its first argument has its hull there
+pub share-shares : (r : Rounding) → IsSharing (share r) (λ a. pos 0) (λ a. a)
+share-shares r = record { rises = share-rises r; drawn = share-drawn r; between = share-between r }
+
+pub keep-shares : (r : Rounding) → IsSharing (keep r) (λ a. a) (λ a. pos 0)
+keep-shares r = record { rises = keep-rises r; drawn = keep-drawn r; between = keep-between r }
+
+-- the hull of such an operation over bands
+abbrev pub IsShared : (ℤ → ℤ → ℤ) → Interval → Interval → Interval → Type 0
+IsShared f A G R = IsMade (IsValue2 f A G) (hull2 f A G) R × IsInside R (join (point (pos 0)) A)
+
 value-between : (f : ℤ → ℤ → ℤ) → ((a g : ℤ) → Holds (join (point (pos 0)) (point a)) (f a g)) →
     (A G : Interval) (z : ℤ) →
     IsValue2 f A G z → Holds (join (point (pos 0)) A) z
@@ -132,12 +136,36 @@ value-between f h A G z v =
     let e = v.2.2 in
     record { above = omega (arith, ints, clamps); below = omega (arith, ints, clamps) }
 
-pub hull-between : (f : ℤ → ℤ → ℤ) → ((a g : ℤ) → Holds (join (point (pos 0)) (point a)) (f a g)) → (A G R : Interval) →
-    IsHull (IsValue2 f A G) R → IsInside R (join (point (pos 0)) A)
-hull-between f h A G R k = record {
-  above = (value-between f h A G R.lo k.low).above;
-  below = (value-between f h A G R.hi k.high).below;
-}
+-- it lies between the values at the ends of the first, each at the end of the second that its sign picks
+pub shared : (f : ℤ → ℤ → ℤ) (C D : ℤ → ℤ) → IsSharing f C D → (I A G : Interval) (x y r s : ℤ) → IsRead I A →
+    IsBand G → Takes (C A.lo) (D A.lo) G.lo G.hi x → Takes (C A.hi) (D A.hi) G.hi G.lo y →
+    FitsSigned w64 x → FitsSigned w64 y → FitsSigned w64 r → FitsSigned w64 s →
+    r ≡ f (to_z w64 (of_z w64 I.lo)) (to_z w64 (of_z w64 x)) →
+    s ≡ f (to_z w64 (of_z w64 I.hi)) (to_z w64 (of_z w64 y)) →
+    IsShared f A G (record { lo = to_z w64 (of_z w64 r); hi = to_z w64 (of_z w64 s) })
+shared f C D sharing I A G x y r s i g t u h k fr fs m n =
+    let low = drawn-least (C A.lo) (D A.lo) (f A.lo) G x (sharing.drawn A.lo) g t in
+    let high = drawn-greatest (C A.hi) (D A.hi) (f A.hi) G y (sharing.drawn A.hi) g u in
+    let p : to_z w64 (of_z w64 r) ≡ f A.lo x = given2 f _ _ r A.lo x fr m i.ends.0 (to_z-of_z w64 x h) in
+    let q : to_z w64 (of_z w64 s) ≡ f A.hi y = given2 f _ _ s A.hi y fs n i.ends.1 (to_z-of_z w64 y k) in
+    let exact : IsHull (IsValue2 f A G) (record { lo = to_z w64 (of_z w64 r); hi = to_z w64 (of_z w64 s) }) = record {
+      holds = λ z v. record {
+        above = omega (arith, ints, p, low.least v.2.0 v.2.1, sharing.rises A.lo v.0 v.2.0 v.1.above, v.2.2);
+        below = omega (arith, ints, q, high.greatest v.2.0 v.2.1, sharing.rises v.0 A.hi v.2.0 v.1.below, v.2.2);
+      };
+      low = (A.lo, low-holds A A.lo i.band refl, (x, low.holds, sym p));
+      high = (A.hi, high-holds A A.hi i.band refl, (y, high.holds, sym q));
+    } in
+    let monotone : IsMonotone2 f = (
+      (λ b. rises (λ a. f a b) (λ a c l. sharing.rises a c b l)),
+      (λ a. drawn-monotone (C a) (D a) (f a) (sharing.drawn a)),
+    ) in (
+      made _ _ _ exact (hull2-exact f A G i.band g monotone),
+      record {
+        above = (value-between f sharing.between A G _ exact.low).above;
+        below = (value-between f sharing.between A G _ exact.high).below;
+      },
+    )
 
 -- the first argument is drawn by c and d, and the second by e and g
 pub record AreDrawn (c d e g : ℤ) (f : ℤ → ℤ → ℤ) : Type 0 where
@@ -180,43 +208,45 @@ greatest-drawn c d e g f A B x y p h a b t s i =
       greatest = λ u v m n. omega (arith, ints, k.least u v m n);
     }
 
--- so the hull of what rises with its first two arguments lies between the least at their lower and the greatest at
--- their
--- upper ends
-corners4 : (f : ℤ → ℤ → ℤ → ℤ → ℤ) → ((a b d m v : ℤ) → a ≤ℤ b → f a d m v ≤ℤ f b d m v) →
-    ((c a b m v : ℤ) → a ≤ℤ b → f c a m v ≤ℤ f c b m v) → (C D M V : Interval) (p q : ℤ) → IsBand C → IsBand D →
+-- z lies between a value of f and one of g, both at the same numbers of the intervals
+record LiesOver (f g : ℤ → ℤ → ℤ) (A B : Interval) (z : ℤ) : Type 0 where
+  first : ℤ
+  second : ℤ
+  held : Holds A first × Holds B second
+  above : f first second ≤ℤ z
+  below : z ≤ℤ g first second
+
+-- so where all values lie so, their hull goes from the least of f to the greatest of g, which are values too
+corner-hull : (V : ℤ → Type 0) (f g : ℤ → ℤ → ℤ) (A B : Interval) (p q : ℤ) → ((z : ℤ) → V z → LiesOver f g A B z) →
+    V p → V q → IsLeastOver f A B p → IsGreatestOver g A B q → IsHull V (record { lo = p; hi = q })
+corner-hull V f g A B p q over at_low at_high low high = record {
+  holds = λ z v.
+      let k = over z v in
+      record {
+        above = omega (arith, ints, low.least k.first k.second k.held.0 k.held.1, k.above);
+        below = omega (arith, ints, high.greatest k.first k.second k.held.0 k.held.1, k.below);
+      };
+  low = at_low;
+  high = at_high;
+}
+
+-- that of what rises with its first two arguments, from the least at their lower to the greatest at their upper ends
+corners4 : (f : ℤ → ℤ → ℤ → ℤ → ℤ) → ((a b c d m v : ℤ) → a ≤ℤ b → c ≤ℤ d → f a c m v ≤ℤ f b d m v) →
+    (C D M V : Interval) (p q : ℤ) → IsBand C → IsBand D →
     IsLeastOver (f C.lo D.lo) M V p → IsGreatestOver (f C.hi D.hi) M V q →
     IsHull (IsValue4 f C D M V) (record { lo = p; hi = q })
-corners4 f first second C D M V p q c d low high =
+corners4 f rises C D M V p q c d low high =
+    corner-hull (IsValue4 f C D M V) (f C.lo D.lo) (f C.hi D.hi) M V p q
+    (λ z v.
     record {
-      holds = λ z v.
-          let a = v.0 in
-          let b = v.2.0 in
-          let m = v.2.2.0 in
-          let w = v.2.2.2.0 in
-          let h = v.2.2.1 in
-          let k = v.2.2.2.1 in
-          record {
-            above = omega (
-              arith,
-              ints,
-              low.least m w h k,
-              first C.lo a D.lo m w v.1.above,
-              second a D.lo b m w v.2.1.above,
-              v.2.2.2.2,
-            );
-            below = omega (
-              arith,
-              ints,
-              high.greatest m w h k,
-              first a C.hi D.hi m w v.1.below,
-              second a b D.hi m w v.2.1.below,
-              v.2.2.2.2,
-            );
-          };
-      low = (C.lo, low-holds C C.lo c refl, (D.lo, low-holds D D.lo d refl, low.found));
-      high = (C.hi, high-holds C C.hi c refl, (D.hi, high-holds D D.hi d refl, high.found));
-    }
+      first = v.2.2.0;
+      second = v.2.2.2.0;
+      held = (v.2.2.1, v.2.2.2.1);
+      above = omega (arith, ints, rises C.lo v.0 D.lo v.2.0 v.2.2.0 v.2.2.2.0 v.1.above v.2.1.above, v.2.2.2.2);
+      below = omega (arith, ints, rises v.0 C.hi v.2.0 D.hi v.2.2.0 v.2.2.2.0 v.1.below v.2.1.below, v.2.2.2.2);
+    })
+    (C.lo, low-holds C C.lo c refl, (D.lo, low-holds D D.lo d refl, low.found))
+    (C.hi, high-holds C C.hi c refl, (D.hi, high-holds D D.hi d refl, high.found)) low high
 
 -- what lies between its first two arguments has its hull between their bands
 value-inside : (f : ℤ → ℤ → ℤ → ℤ → ℤ) → ((c d m v : ℤ) → Holds (join (point c) (point d)) (f c d m v)) →
@@ -237,13 +267,36 @@ hull-inside_contents f between C D M V R h =
       below = (value-inside f between C D M V R.hi h.high).below;
     }
 
--- the other two turn with the first two: the third is drawn from the first to the second, and the fourth back
-pub blend-turned : (r : Rounding) (c d : ℤ) → AreDrawn c d d c (blend r c d)
-blend-turned r c d = record { first = blend-part r c d; second = blend-volume r c d }
+-- what blends its first two arguments: it rises with both, the third draws from the first to the second and the fourth
+-- back, and it lies between the two
+pub record IsBlending (f : ℤ → ℤ → ℤ → ℤ → ℤ) : Type 0 where
+  pub rises : (a b c d m v : ℤ) → a ≤ℤ b → c ≤ℤ d → f a c m v ≤ℤ f b d m v
+  pub turned : (c d : ℤ) → AreDrawn c d d c (f c d)
+  pub between : (c d m v : ℤ) → Holds (join (point c) (point d)) (f c d m v)
+
+blending-monotone : (f : ℤ → ℤ → ℤ → ℤ → ℤ) → IsBlending f → IsMonotone4 f
+blending-monotone f b = monotone4 f b.rises
+    (λ c d v. drawn-monotone c d (λ m. f c d m v) ((b.turned c d).first v))
+    (λ c d m. drawn-monotone d c (f c d m) ((b.turned c d).second m))
+
+pub blend-blends : (r : Rounding) → IsBlending (blend r)
+blend-blends r = record {
+  rises = blend-rises r;
+  turned = λ c d. record { first = blend-part r c d; second = blend-volume r c d };
+  between = blend-between r;
+}
 
 -- a mix the other way, so with its flows exchanged
-pub mix-turned : (r : Rounding) (c d : ℤ) → AreDrawn c d d c (λ n m. mix r c d m n)
-mix-turned r c d = record { first = λ m. mix-second_flow r c d m; second = λ n. mix-first_flow r c d n }
+pub mix-blends : (r : Rounding) → IsBlending (λ c d n m. mix r c d m n)
+mix-blends r = record {
+  rises = λ a b c d n m. mix-rises r a b c d m n;
+  turned = λ c d. record { first = λ m. mix-second_flow r c d m; second = λ n. mix-first_flow r c d n };
+  between = λ c d n m. mix-between r c d m n;
+}
+
+-- the hull of such an operation over bands
+abbrev pub IsBlended : (ℤ → ℤ → ℤ → ℤ → ℤ) → Interval → Interval → Interval → Interval → Interval → Type 0
+IsBlended f C D A B R = IsMade (IsValue4 f C D A B) (hull4 f C D A B) R × IsInside R (join C D)
 
 -- the lower end of one interval and the upper end of the other where c is not above d, and else the other end of each
 pub record AreOpposite (c d : ℤ) (A B : Interval) (ends : ℤ × ℤ) : Type 0 where
@@ -251,43 +304,55 @@ pub record AreOpposite (c d : ℤ) (A B : Interval) (ends : ℤ × ℤ) : Type 0
   pub second : IsPicked c d B.hi B.lo ends.1
   pub inside : Holds A ends.0 × Holds B ends.1
 
--- so their hull lies between the values that are called at opposite ends
-pub turned-hull : (f : ℤ → ℤ → ℤ → ℤ → ℤ) → ((a b d m v : ℤ) → a ≤ℤ b → f a d m v ≤ℤ f b d m v) →
-    ((c a b m v : ℤ) → a ≤ℤ b → f c a m v ≤ℤ f c b m v) → ((c d : ℤ) → AreDrawn c d d c (f c d)) → (C D A B : Interval)
-    (c d e g : ℤ) (ends ends' : ℤ × ℤ) (r s : ℤ) → IsBand C → IsBand D → (c ≡ C.lo) × (e ≡ C.hi) →
-    (d ≡ D.lo) × (g ≡ D.hi) →
-    AreOpposite c d A B ends → AreOpposite e g B A ends' →
+-- it lies between the values that are called at opposite ends
+pub blended : (f : ℤ → ℤ → ℤ → ℤ → ℤ) → IsBlending f → (I J C D A B : Interval)
+    (ends ends' : ℤ × ℤ) (r s : ℤ) → IsRead I C → IsRead J D →
+    AreOpposite (to_z w64 (of_z w64 I.lo)) (to_z w64 (of_z w64 J.lo)) A B ends →
+    AreOpposite (to_z w64 (of_z w64 I.hi)) (to_z w64 (of_z w64 J.hi)) B A ends' →
     FitsSigned w64 ends.0 → FitsSigned w64 ends.1 → FitsSigned w64 ends'.0 → FitsSigned w64 ends'.1 →
     FitsSigned w64 r → FitsSigned w64 s →
-    r ≡ f c d (to_z w64 (of_z w64 ends.0)) (to_z w64 (of_z w64 ends.1)) →
-    s ≡ f e g (to_z w64 (of_z w64 ends'.1)) (to_z w64 (of_z w64 ends'.0)) →
-    IsHull (IsValue4 f C D A B) (record { lo = to_z w64 (of_z w64 r); hi = to_z w64 (of_z w64 s) })
-turned-hull f first second turned C D A B c d e g ends ends' r s bc bd ec ed o o' h k h' k' i j m n =
-    let a = holds-band A ends.0 o.inside.0 in
-    let b = holds-band B ends.1 o.inside.1 in
-    corners4 f first second C D A B _ _ bc bd
-    (least-drawn C.lo D.lo D.lo C.lo (f C.lo D.lo) A B ends.0 ends.1 _ (turned C.lo D.lo) a b
-    (takes c d A.lo A.hi _ _ _ _ _ ec.0 ed.0 refl refl o.first)
-    (takes_back C.lo D.lo B.hi B.lo _ (takes c d B.hi B.lo _ _ _ _ _ ec.0 ed.0 refl refl o.second))
-    (given4 f c d _ _ r C.lo D.lo ends.0 ends.1 i m ec.0 ed.0 (to_z-of_z w64 ends.0 h) (to_z-of_z w64 ends.1 k)))
-    (greatest-drawn C.hi D.hi D.hi C.hi (f C.hi D.hi) A B ends'.1 ends'.0 _ (turned C.hi D.hi) a b
-    (takes e g A.hi A.lo _ _ _ _ _ ec.1 ed.1 refl refl o'.second)
-    (takes_back C.hi D.hi B.lo B.hi _ (takes e g B.lo B.hi _ _ _ _ _ ec.1 ed.1 refl refl o'.first))
-    (given4 f e g _ _ s C.hi D.hi ends'.1 ends'.0 j n ec.1 ed.1 (to_z-of_z w64 ends'.1 k') (to_z-of_z w64 ends'.0 h')))
+    r ≡ f (to_z w64 (of_z w64 I.lo)) (to_z w64 (of_z w64 J.lo)) (to_z w64 (of_z w64 ends.0))
+    (to_z w64 (of_z w64 ends.1)) →
+    s ≡ f (to_z w64 (of_z w64 I.hi)) (to_z w64 (of_z w64 J.hi)) (to_z w64 (of_z w64 ends'.1))
+    (to_z w64 (of_z w64 ends'.0)) →
+    IsBlended f C D A B (record { lo = to_z w64 (of_z w64 r); hi = to_z w64 (of_z w64 s) })
+blended f b I J C D A B ends ends' r s i j o o' h k h' k' fr fs er es =
+    let least = least-drawn C.lo D.lo D.lo C.lo (f C.lo D.lo) A B ends.0 ends.1 _ (b.turned C.lo D.lo)
+    (holds-band A ends.0 o.inside.0) (holds-band B ends.1 o.inside.1)
+    (takes _ _ A.lo A.hi _ _ _ _ _ i.ends.0 j.ends.0 refl refl o.first)
+    (takes_back C.lo D.lo B.hi B.lo _ (takes _ _ B.hi B.lo _ _ _ _ _ i.ends.0 j.ends.0 refl refl o.second))
+    (given4 f _ _ _ _ r C.lo D.lo ends.0 ends.1 fr er i.ends.0 j.ends.0 (to_z-of_z w64 ends.0 h)
+    (to_z-of_z w64 ends.1 k)) in
+    let greatest = greatest-drawn C.hi D.hi D.hi C.hi (f C.hi D.hi) A B ends'.1 ends'.0 _ (b.turned C.hi D.hi)
+    (holds-band A ends.0 o.inside.0) (holds-band B ends.1 o.inside.1)
+    (takes _ _ A.hi A.lo _ _ _ _ _ i.ends.1 j.ends.1 refl refl o'.second)
+    (takes_back C.hi D.hi B.lo B.hi _ (takes _ _ B.lo B.hi _ _ _ _ _ i.ends.1 j.ends.1 refl refl o'.first))
+    (given4 f _ _ _ _ s C.hi D.hi ends'.1 ends'.0 fs es i.ends.1 j.ends.1 (to_z-of_z w64 ends'.1 k')
+    (to_z-of_z w64 ends'.0 h')) in
+    let exact = corners4 f b.rises C D A B _ _ i.band j.band least greatest in (
+      made _ _ _ exact (hull4-exact f C D A B i.band j.band (holds-band A ends.0 o.inside.0)
+          (holds-band B ends.1 o.inside.1) (blending-monotone f b)),
+      hull-inside_contents f b.between C D A B _ exact,
+    )
 
--- and the hull of an operation with two arguments exchanged is the same
+-- and that of an operation with two arguments exchanged is the same
 exchanged : (f : ℤ → ℤ → ℤ → ℤ → ℤ) (C D M N : Interval) (z : ℤ) → IsValue4 (λ c d n m. f c d m n) C D N M z →
     IsValue4 f C D M N z
 exchanged f C D M N z v = (v.0, v.1, (v.2.0, v.2.1, (v.2.2.2.0, v.2.2.2.1, (v.2.2.0, v.2.2.1, v.2.2.2.2))))
 
-pub exchanged-hull : (f : ℤ → ℤ → ℤ → ℤ → ℤ) (C D M N R : Interval) →
-    IsHull (IsValue4 (λ c d n m. f c d m n) C D N M) R →
-    IsHull (IsValue4 f C D M N) R
-exchanged-hull f C D M N R h = record {
-  holds = λ z v. h.holds z (exchanged (λ c d n m. f c d m n) C D N M z v);
-  low = exchanged f C D M N R.lo h.low;
-  high = exchanged f C D M N R.hi h.high;
-}
+pub blended-exchanged : (f : ℤ → ℤ → ℤ → ℤ → ℤ) (C D M N R : Interval) → IsMonotone4 f →
+    IsBlended (λ c d n m. f c d m n) C D N M R → IsBlended f C D M N R
+blended-exchanged f C D M N R monotone b =
+    let at : IsValue4 f C D M N R.lo = exchanged f C D M N R.lo b.0.exact.low in
+    let exact : IsHull (IsValue4 f C D M N) R = record {
+      holds = λ z v. b.0.exact.holds z (exchanged (λ c d n m. f c d m n) C D N M z v);
+      low = at;
+      high = exchanged f C D M N R.hi b.0.exact.high;
+    } in (
+      made _ _ _ exact (hull4-exact f C D M N (holds-band C _ at.1) (holds-band D _ at.2.1) (holds-band M _ at.2.2.1)
+          (holds-band N _ at.2.2.2.1) monotone),
+      b.1,
+    )
 
 -- a stage is drawn by its two flows
 pub tray-drawn : (r : Rounding) (holdup slope x xa yb : ℤ) →
@@ -337,48 +402,22 @@ pub stage-corners : (r : Rounding) (holdup slope : ℤ) (X A B L V : Interval) (
     IsLeastOver (tray r holdup slope X.lo A.lo B.lo) L V p → IsGreatestOver (tray r holdup slope X.hi A.hi B.hi) L V q →
     IsHull (IsValue5 (tray r holdup slope) X A B L V) (record { lo = p; hi = q })
 stage-corners r holdup slope X A B L V p q x a b pushes low high =
+    corner-hull (IsValue5 (tray r holdup slope) X A B L V) (tray r holdup slope X.lo A.lo B.lo)
+    (tray r holdup slope X.hi A.hi B.hi) L V p q
+    (λ z t.
+    let e = t.0 in
+    let f = t.2.0 in
+    let g = t.2.2.0 in
+    let l = t.2.2.2.0 in
+    let v = t.2.2.2.2.0 in
+    let rise = tray-contents r holdup slope l v (pushes l v t.2.2.2.1 t.2.2.2.2.1) in
     record {
-      holds = λ z t.
-          let e = t.0 in
-          let f = t.2.0 in
-          let g = t.2.2.0 in
-          let l = t.2.2.2.0 in
-          let v = t.2.2.2.2.0 in
-          let h = t.2.2.2.1 in
-          let k = t.2.2.2.2.1 in
-          let rise = tray-contents r holdup slope l v (pushes l v h k) in
-          record {
-            above = omega (
-              arith,
-              ints,
-              low.least l v h k,
-              rise X.lo A.lo B.lo e f g t.1.above t.2.1.above t.2.2.1.above,
-              t.2.2.2.2.2,
-            );
-            below = omega (
-              arith,
-              ints,
-              high.greatest l v h k,
-              rise e f g X.hi A.hi B.hi t.1.below t.2.1.below t.2.2.1.below,
-              t.2.2.2.2.2,
-            );
-          };
-      low = (
-        X.lo,
-        low-holds X X.lo x refl,
-        (
-          A.lo,
-          low-holds A A.lo a refl,
-          (B.lo, low-holds B B.lo b refl, low.found),
-        ),
-      );
-      high = (
-        X.hi,
-        high-holds X X.hi x refl,
-        (
-          A.hi,
-          high-holds A A.hi a refl,
-          (B.hi, high-holds B B.hi b refl, high.found),
-        ),
-      );
-    }
+      first = l;
+      second = v;
+      held = (t.2.2.2.1, t.2.2.2.2.1);
+      above = omega (arith, ints, rise X.lo A.lo B.lo e f g t.1.above t.2.1.above t.2.2.1.above, t.2.2.2.2.2);
+      below = omega (arith, ints, rise e f g X.hi A.hi B.hi t.1.below t.2.1.below t.2.2.1.below, t.2.2.2.2.2);
+    })
+    (X.lo, low-holds X X.lo x refl, (A.lo, low-holds A A.lo a refl, (B.lo, low-holds B B.lo b refl, low.found)))
+    (X.hi, high-holds X X.hi x refl, (A.hi, high-holds A A.hi a refl, (B.hi, high-holds B B.hi b refl, high.found)))
+    low high

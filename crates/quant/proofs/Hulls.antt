@@ -171,10 +171,6 @@ holds-band A z h = record { ordered = omega (arith, ints) }
 pub inside-holds : (A B : Interval) (z : ℤ) → IsInside A B → Holds A z → Holds B z
 inside-holds A B z i h = record { above = omega (arith, ints); below = omega (arith, ints) }
 
--- an interval that holds a band has a number in it
-pub inside-band : (A B : Interval) → IsInside A B → IsBand A → IsBand B
-inside-band A B i a = record { ordered = omega (arith, ints) }
-
 -- the hull holds the value at any numbers of the bands
 pub hull1-holds : (f : ℤ → ℤ) (A : Interval) (x : ℤ) → IsMonotone1 f → Holds A x → Holds (hull1 f A) (f x)
 hull1-holds f A x m h = (hull1-exact f A (holds-band A x h) m).holds (f x) (x, h, refl)
@@ -183,13 +179,6 @@ pub hull2-holds : (f : ℤ → ℤ → ℤ) (A B : Interval) (x y : ℤ) → IsM
     Holds (hull2 f A B) (f x y)
 hull2-holds f A B x y m h k = (hull2-exact f A B (holds-band A x h) (holds-band B y k) m).holds (f x y)
     (x, h, (y, k, refl))
-
-pub hull3-holds : (f : ℤ → ℤ → ℤ → ℤ) (A B C : Interval) (x y z : ℤ) → IsMonotone3 f → Holds A x → Holds B y →
-    Holds C z →
-    Holds (hull3 f A B C) (f x y z)
-hull3-holds f A B C x y z m h k l =
-    (hull3-exact f A B C (holds-band A x h) (holds-band B y k) (holds-band C z l) m).holds (f x y z)
-    (x, h, (y, k, (z, l, refl)))
 
 pub hull4-holds : (f : ℤ → ℤ → ℤ → ℤ → ℤ) (A B C D : Interval) (x y z w : ℤ) → IsMonotone4 f → Holds A x → Holds B y →
     Holds C z → Holds D w →
@@ -211,10 +200,6 @@ hull1-band f A m a = hull-band (IsValue1 f A) (hull1 f A) (hull1-exact f A a m)
 
 pub hull2-band : (f : ℤ → ℤ → ℤ) (A B : Interval) → IsMonotone2 f → IsBand A → IsBand B → IsBand (hull2 f A B)
 hull2-band f A B m a b = hull-band (IsValue2 f A B) (hull2 f A B) (hull2-exact f A B a b m)
-
-pub hull3-band : (f : ℤ → ℤ → ℤ → ℤ) (A B C : Interval) → IsMonotone3 f → IsBand A → IsBand B → IsBand C →
-    IsBand (hull3 f A B C)
-hull3-band f A B C m a b c = hull-band (IsValue3 f A B C) (hull3 f A B C) (hull3-exact f A B C a b c m)
 
 pub hull4-band : (f : ℤ → ℤ → ℤ → ℤ → ℤ) (A B C D : Interval) → IsMonotone4 f → IsBand A → IsBand B → IsBand C →
     IsBand D → IsBand (hull4 f A B C D)
@@ -238,14 +223,6 @@ pub hull2-inside : (f : ℤ → ℤ → ℤ) (A B P Q : Interval) → IsMonotone
 hull2-inside f A B P Q m a b i j = hull-inside (IsValue2 f A B) (hull2 f A B) (hull2 f P Q) (hull2-exact f A B a b m)
     (λ z v. let w = v.2 in subst (Holds (hull2 f P Q)) w.2
     (hull2-holds f P Q v.0 w.0 m (inside-holds A P v.0 i v.1) (inside-holds B Q w.0 j w.1)))
-
-pub hull3-inside : (f : ℤ → ℤ → ℤ → ℤ) (A B C P Q R : Interval) → IsMonotone3 f → IsBand A → IsBand B → IsBand C →
-    IsInside A P → IsInside B Q → IsInside C R → IsInside (hull3 f A B C) (hull3 f P Q R)
-hull3-inside f A B C P Q R m a b c i j k = hull-inside (IsValue3 f A B C) (hull3 f A B C) (hull3 f P Q R)
-    (hull3-exact f A B C a b c m)
-    (λ z v. let w = v.2 in let u = w.2 in subst (Holds (hull3 f P Q R)) u.2
-    (hull3-holds f P Q R v.0 w.0 u.0 m (inside-holds A P v.0 i v.1) (inside-holds B Q w.0 j w.1)
-    (inside-holds C R u.0 k u.1)))
 
 pub hull4-inside : (f : ℤ → ℤ → ℤ → ℤ → ℤ) (A B C D P Q R S : Interval) → IsMonotone4 f → IsBand A → IsBand B →
     IsBand C → IsBand D →

@@ -1,15 +1,15 @@
 -- A mix is a blend: of both flows together, the second replaces the first. So it is monotone in each argument.
-use Rattle.std.proofs.Common.{◌≡◌, ℕ, ℤ, pos, ◌+ℤ◌, ◌-ℤ◌, ◌*ℤ◌, ◌≤ℤ◌, ◌<ℤ◌, Bool, true, false, if◌then◌else◌, int_le, arith, refl, sym, ap, subst, ◌∙◌}
+use Rattle.std.proofs.Common.{◌≡◌, ℤ, pos, ◌+ℤ◌, ◌-ℤ◌, ◌*ℤ◌, ◌≤ℤ◌, ◌<ℤ◌, Bool, true, false, if◌then◌else◌, int_le, arith, refl, sym, ap, subst, ◌∙◌}
 use Rattle.std.proofs.lemmas.Int.{ints, clamps, by_lt_z}
 use Rattle.std.proofs.lemmas.Bool.{false_from_ne_true}
 use lib.Dec.{T}
 use lib.Signed.{le_z_yes}
-use Rattle.quant.specs.Interval.{Holds, join, point, around}
+use Rattle.quant.specs.Interval.{Holds, join, point}
 use Rattle.quant.specs.Hull.{IsMonotone4}
 use Rattle.quant.specs.Rounding.{Rounding, quotient, divisor}
 use Rattle.quant.specs.Operation.{not_negative, blend, mix}
 use Rattle.quant.proofs.Division.{quotient-exact_whole}
-use Rattle.quant.proofs.Operations.{IsDrawn, drawn-after, drawn-monotone, monotone4, weighed, weighed-is, blend-is, blend-old, blend-added, blend-volume, blend-between, blend-around}
+use Rattle.quant.proofs.Operations.{IsDrawn, drawn-after, drawn-monotone, monotone4, weighed, weighed-is, blend-is, blend-rises, blend-volume, blend-between}
 
 -- what a test tells
 passes : (b : Bool) → T b → b ≡ true
@@ -81,22 +81,13 @@ mix-swaps r c d m n h =
     ∙ sym (mix-flows r d c n m (omega (arith, ints)))
 
 -- it rises with both contents
-pub mix-first : (r : Rounding) (a b d m n : ℤ) → a ≤ℤ b → mix r a d m n ≤ℤ mix r b d m n
-mix-first r a b d m n h = omega (
+pub mix-rises : (r : Rounding) (a b c d m n : ℤ) → a ≤ℤ b → c ≤ℤ d → mix r a c m n ≤ℤ mix r b d m n
+mix-rises r a b c d m n h k = omega (
   arith,
   ints,
-  mix-is_blend r a d m n,
+  mix-is_blend r a c m n,
   mix-is_blend r b d m n,
-  blend-old r a b d (not_negative n) (volume m n) h,
-)
-
-pub mix-second : (r : Rounding) (c a b m n : ℤ) → a ≤ℤ b → mix r c a m n ≤ℤ mix r c b m n
-mix-second r c a b m n h = omega (
-  arith,
-  ints,
-  mix-is_blend r c a m n,
-  mix-is_blend r c b m n,
-  blend-added r c a b (not_negative n) (volume m n) h,
+  blend-rises r a b c d (not_negative n) (volume m n) h k,
 )
 
 volume-rises : (k m n : ℤ) → k ≤ℤ m → volume k n ≤ℤ volume m n
@@ -155,12 +146,6 @@ mix-second_flow r c d m =
     }
 
 pub mix-monotone : (r : Rounding) → IsMonotone4 (mix r)
-mix-monotone r = monotone4 (mix r) (mix-first r) (mix-second r)
+mix-monotone r = monotone4 (mix r) (mix-rises r)
     (λ c d n. drawn-monotone d c (λ m. mix r c d m n) (mix-first_flow r c d n))
     (λ c d m. drawn-monotone c d (mix r c d m) (mix-second_flow r c d m))
-
--- so it fits where they do
-pub mix-around : (r : Rounding) (c d m n : ℤ) (k : ℕ) → Holds (around k) c → Holds (around k) d →
-    Holds (around k) (mix r c d m n)
-mix-around r c d m n k h i = subst (Holds (around k)) (sym (mix-is_blend r c d m n))
-    (blend-around r c d (not_negative n) (volume m n) k h i)

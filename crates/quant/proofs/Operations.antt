@@ -1,7 +1,8 @@
 -- Each operation is monotone in each argument.
-use Rattle.std.proofs.Common.{◌≡◌, ℕ, ◌*◌, ℤ, pos, ◌+ℤ◌, ◌-ℤ◌, ◌*ℤ◌, neg_ℤ, ◌≤ℤ◌, arith, refl, sym, ap, ◌∙◌}
+use Rattle.std.proofs.Common.{◌≡◌, ℕ, ◌*◌, ℤ, pos, ◌+ℤ◌, ◌-ℤ◌, ◌*ℤ◌, neg_ℤ, ◌≤ℤ◌, arith, refl, sym, subst, ap, ◌∙◌}
 use Rattle.std.proofs.lemmas.Int.{ints, clamps, by_lt_z}
 use Rattle.std.proofs.Math.IntN.{*ℤ_comm}
+use Rattle.std.specs.Int.{int_min, int_max}
 use Rattle.quant.specs.Interval.{Interval, Holds, join, point, around}
 use Rattle.quant.specs.Hull.{IsMonotone1, IsMonotone2, IsMonotone4}
 use Rattle.quant.specs.Rounding.{Rounding, quotient, divisor}
@@ -47,14 +48,13 @@ drawn-after c d f u g h m e = record {
   down = λ x y p l. omega (arith, ints, e x, e y, h.down (u x) (u y) p (m x y l));
 }
 
--- what is monotone in each argument, its first two upward
-pub monotone4 : (f : ℤ → ℤ → ℤ → ℤ → ℤ) → ((a b d m v : ℤ) → a ≤ℤ b → f a d m v ≤ℤ f b d m v) →
-    ((c a b m v : ℤ) → a ≤ℤ b → f c a m v ≤ℤ f c b m v) → ((c d v : ℤ) → IsMonotone1 (λ m. f c d m v)) →
-    ((c d m : ℤ) → IsMonotone1 (f c d m)) → IsMonotone4 f
-monotone4 f first second third fourth = (
-  (λ d m v. rises (λ c. f c d m v) (λ a b h. first a b d m v h)),
+-- what rises with its first two arguments, and is monotone in the other two
+pub monotone4 : (f : ℤ → ℤ → ℤ → ℤ → ℤ) → ((a b c d m v : ℤ) → a ≤ℤ b → c ≤ℤ d → f a c m v ≤ℤ f b d m v) →
+    ((c d v : ℤ) → IsMonotone1 (λ m. f c d m v)) → ((c d m : ℤ) → IsMonotone1 (f c d m)) → IsMonotone4 f
+monotone4 f both third fourth = (
+  (λ d m v. rises (λ c. f c d m v) (λ a b h. both a b d d m v h (omega (arith, ints)))),
   (λ c. (
-    (λ m v. rises (λ d. f c d m v) (λ a b h. second c a b m v h)),
+    (λ m v. rises (λ d. f c d m v) (λ a b h. both c c a b m v (omega (arith, ints)) h)),
     (λ d. (third c d, fourth c d)),
   )),
 )
@@ -89,31 +89,6 @@ part-below w m h = omega (arith, ints, clamps)
 pub part-rises : (w m n : ℤ) → m ≤ℤ n → part w m ≤ℤ part w n
 part-rises w m n h = omega (arith, ints, clamps)
 
--- `share` rises with the whole, and with the ppm where the whole is not negative
-pub share-rises : (r : Rounding) (a b g : ℤ) → a ≤ℤ b → share r a g ≤ℤ share r b g
-unfolding share
-share-rises r a b g h = quotient-rises r (a *ℤ part million g) (b *ℤ part million g) million
-    (times-le a b (part million g) (part-above million g) h)
-
-pub share-up : (r : Rounding) (a g h : ℤ) → pos 0 ≤ℤ a → g ≤ℤ h → share r a g ≤ℤ share r a h
-unfolding share
-share-up r a g h p q = quotient-rises r (a *ℤ part million g) (a *ℤ part million h) million
-    (le-times (part million g) (part million h) a p (part-rises million g h q))
-
-pub share-down : (r : Rounding) (a g h : ℤ) → a ≤ℤ pos 0 → g ≤ℤ h → share r a h ≤ℤ share r a g
-unfolding share
-share-down r a g h p q = quotient-rises r (a *ℤ part million h) (a *ℤ part million g) million
-    (ge-times (part million g) (part million h) a p (part-rises million g h q))
-
-pub share-drawn : (r : Rounding) (a : ℤ) → IsDrawn (pos 0) a (share r a)
-share-drawn r a = record { up = λ g h p q. share-up r a g h p q; down = λ g h p q. share-down r a g h p q }
-
-pub share-monotone : (r : Rounding) → IsMonotone2 (share r)
-share-monotone r = (
-  (λ g. rises (λ a. share r a g) (λ a b h. share-rises r a b g h)),
-  (λ a. drawn-monotone (pos 0) a (share r a) (share-drawn r a)),
-)
-
 -- `gain` rises where its ppm are not negative, and else falls
 pub gain-up : (r : Rounding) (k a b : ℤ) → pos 0 ≤ℤ k → a ≤ℤ b → gain r k a ≤ℤ gain r k b
 unfolding gain
@@ -129,63 +104,6 @@ gain-drawn r k = record { up = λ a b p h. gain-up r k a b p h; down = λ a b p 
 
 pub gain-monotone : (r : Rounding) (k : ℤ) → IsMonotone1 (gain r k)
 gain-monotone r k = drawn-monotone (pos 0) k (gain r k) (gain-drawn r k)
-
--- the share of a number lies from 0 to the number
-pub share-between_up : (r : Rounding) (a g : ℤ) → pos 0 ≤ℤ a → (pos 0 ≤ℤ share r a g) × (share r a g ≤ℤ a)
-unfolding share
-share-between_up r a g p =
-    let n = part million g in
-    quotient-between r (pos 0) a (a *ℤ n) million (omega (arith, ints, times-le (pos 0) a n (part-above million g) p))
-    (le-times n million a p (part-below million g (omega (arith, ints))))
-
-pub share-between_down : (r : Rounding) (a g : ℤ) → a ≤ℤ pos 0 → (a ≤ℤ share r a g) × (share r a g ≤ℤ pos 0)
-unfolding share
-share-between_down r a g p =
-    let n = part million g in
-    quotient-between r a (pos 0) (a *ℤ n) million (ge-times n million a p (part-below million g (omega (arith, ints))))
-    (omega (arith, ints, times-le a (pos 0) n (part-above million g) p))
-
--- a share rises by at most as much as its whole
-share-gains : (r : Rounding) (a b g : ℤ) → a ≤ℤ b → share r b g ≤ℤ (share r a g +ℤ (b -ℤ a))
-unfolding share
-share-gains r a b g h =
-    let n = part million g in
-    let gain : ((b -ℤ a) *ℤ n) ≤ℤ ((b -ℤ a) *ℤ divisor million) =
-    le-times n million (b -ℤ a) (omega (arith, ints)) (part-below million g (omega (arith, ints))) in
-    let more : (b *ℤ n) ≤ℤ (a *ℤ n +ℤ (b -ℤ a) *ℤ divisor million) = omega (arith, ints, gain, sub-times b a n) in
-    omega (
-      arith,
-      ints,
-      quotient-rises r (b *ℤ n) (a *ℤ n +ℤ (b -ℤ a) *ℤ divisor million) million more,
-      quotient-shifts r (a *ℤ n) (b -ℤ a) million,
-    )
-
--- `keep` rises with the whole, and falls with the ppm where the whole is not negative
-pub keep-rises : (r : Rounding) (a b g : ℤ) → a ≤ℤ b → keep r a g ≤ℤ keep r b g
-unfolding keep
-keep-rises r a b g h = omega (arith, ints, share-gains r a b g h)
-
-pub keep-drawn : (r : Rounding) (a : ℤ) → IsDrawn a (pos 0) (keep r a)
-unfolding keep
-keep-drawn r a = record {
-  up = λ g h p q. omega (arith, ints, share-down r a g h p q);
-  down = λ g h p q. omega (arith, ints, share-up r a g h p q);
-}
-
-pub keep-monotone : (r : Rounding) → IsMonotone2 (keep r)
-keep-monotone r = (
-  (λ g. rises (λ a. keep r a g) (λ a b h. keep-rises r a b g h)),
-  (λ a. drawn-monotone a (pos 0) (keep r a) (keep-drawn r a)),
-)
-
--- what keep leaves lies from 0 to the number too
-pub keep-between_up : (r : Rounding) (a g : ℤ) → pos 0 ≤ℤ a → (pos 0 ≤ℤ keep r a g) × (keep r a g ≤ℤ a)
-unfolding keep
-keep-between_up r a g p = let h = share-between_up r a g p in (omega (arith, ints), omega (arith, ints))
-
-pub keep-between_down : (r : Rounding) (a g : ℤ) → a ≤ℤ pos 0 → (a ≤ℤ keep r a g) × (keep r a g ≤ℤ pos 0)
-unfolding keep
-keep-between_down r a g p = let h = share-between_down r a g p in (omega (arith, ints), omega (arith, ints))
 
 -- what is divided in a blend: w at c, of which n are replaced by d
 abbrev pub weighed : ℤ → ℤ → ℤ → ℤ → ℤ
@@ -206,20 +124,14 @@ weighed-times c d w n u =
     )
 
 -- `blend` rises with what is there and with what is added
-pub blend-old : (r : Rounding) (a b d m v : ℤ) → a ≤ℤ b → blend r a d m v ≤ℤ blend r b d m v
+pub blend-rises : (r : Rounding) (a b c d m v : ℤ) → a ≤ℤ b → c ≤ℤ d → blend r a c m v ≤ℤ blend r b d m v
 unfolding blend
-blend-old r a b d m v h =
+blend-rises r a b c d m v h k =
     let w = divisor v in
     let n = part w m in
     let kept : pos 0 ≤ℤ (w -ℤ n) = omega (arith, ints, part-below w m (omega (arith, ints, one-le_divisor v))) in
-    quotient-rises r (weighed a d w n) (weighed b d w n) w (omega (arith, ints, times-le a b (w -ℤ n) kept h))
-
-pub blend-added : (r : Rounding) (c a b m v : ℤ) → a ≤ℤ b → blend r c a m v ≤ℤ blend r c b m v
-unfolding blend
-blend-added r c a b m v h =
-    let w = divisor v in
-    let n = part w m in
-    quotient-rises r (weighed c a w n) (weighed c b w n) w (omega (arith, ints, times-le a b n (part-above w m) h))
+    quotient-rises r (weighed a c w n) (weighed b d w n) w
+    (omega (arith, ints, times-le a b (w -ℤ n) kept h, times-le c d n (part-above w m) k))
 
 -- it rises with the part where what is added is not less, and else falls
 weighed-steps : (c d w m n : ℤ) → ((d -ℤ c) *ℤ m) ≤ℤ ((d -ℤ c) *ℤ n) → weighed c d w m ≤ℤ weighed c d w n
@@ -283,70 +195,113 @@ blend-volume r c d m = record {
 }
 
 pub blend-monotone : (r : Rounding) → IsMonotone4 (blend r)
-blend-monotone r = monotone4 (blend r) (blend-old r) (blend-added r)
+blend-monotone r = monotone4 (blend r) (blend-rises r)
     (λ c d v. drawn-monotone c d (λ m. blend r c d m v) (blend-part r c d v))
     (λ c d m. drawn-monotone d c (blend r c d m) (blend-volume r c d m))
 
--- the same, seen from what is added
-weighed-new : (c d w n : ℤ) → weighed c d w n ≡ d *ℤ w -ℤ (d -ℤ c) *ℤ (w -ℤ n)
-weighed-new c d w n =
+weighed-same : (a w n : ℤ) → weighed a a w n ≡ a *ℤ w
+weighed-same a w n = omega (arith, ints, *ℤ_comm a (w -ℤ n), sub-times w n a, *ℤ_comm w a, *ℤ_comm n a)
+
+-- what is divided is no less than the whole at any number that is not above both, and no more at one that is not below
+weighed-over : (a c d w n : ℤ) → pos 0 ≤ℤ n → n ≤ℤ w → a ≤ℤ c → a ≤ℤ d → (a *ℤ w) ≤ℤ weighed c d w n
+weighed-over a c d w n p q h k =
     omega (
       arith,
       ints,
-      weighed-is c d w n,
-      sub-times d c w,
-      *ℤ_comm (d -ℤ c) (w -ℤ n),
-      sub-times w n
-          (d -ℤ c),
-      *ℤ_comm w (d -ℤ c),
-      *ℤ_comm n (d -ℤ c),
+      weighed-same a w n,
+      times-le a c (w -ℤ n) (omega (arith, ints)) h,
+      times-le a d n p k,
     )
 
--- a blend lies between what is there and what is added
-pub blend-between_up : (r : Rounding) (c d m v : ℤ) → c ≤ℤ d → (c ≤ℤ blend r c d m v) × (blend r c d m v ≤ℤ d)
-unfolding blend
-blend-between_up r c d m v p =
-    let w = divisor v in
-    let n = part w m in
-    let kept : pos 0 ≤ℤ (w -ℤ n) = omega (arith, ints, part-below w m (omega (arith, ints, one-le_divisor v))) in
-    quotient-between_whole r c d (weighed c d w n) w (one-le_divisor v)
-    (omega (arith, ints, weighed-is c d w n, le-times (pos 0) n (d -ℤ c) (omega (arith, ints)) (part-above w m)))
-    (omega (arith, ints, weighed-new c d w n, le-times (pos 0) (w -ℤ n) (d -ℤ c) (omega (arith, ints)) kept))
+weighed-under : (b c d w n : ℤ) → pos 0 ≤ℤ n → n ≤ℤ w → c ≤ℤ b → d ≤ℤ b → weighed c d w n ≤ℤ (b *ℤ w)
+weighed-under b c d w n p q h k =
+    omega (arith, ints, weighed-same b w n, times-le c b (w -ℤ n) (omega (arith, ints)) h, times-le d b n p k)
 
-pub blend-between_down : (r : Rounding) (c d m v : ℤ) → d ≤ℤ c → (d ≤ℤ blend r c d m v) × (blend r c d m v ≤ℤ c)
-unfolding blend
-blend-between_down r c d m v p =
-    let w = divisor v in
-    let n = part w m in
-    let kept : pos 0 ≤ℤ (w -ℤ n) = omega (arith, ints, part-below w m (omega (arith, ints, one-le_divisor v))) in
-    quotient-between_whole r d c (weighed c d w n) w (one-le_divisor v)
-    (omega (arith, ints, weighed-new c d w n, ge-times (pos 0) (w -ℤ n) (d -ℤ c) (omega (arith, ints)) kept))
-    (omega (arith, ints, weighed-is c d w n, ge-times (pos 0) n (d -ℤ c) (omega (arith, ints)) (part-above w m)))
-
--- the same, as the contracts say it
-pub share-between : (r : Rounding) (a g : ℤ) → Holds (join (point (pos 0)) (point a)) (share r a g)
-share-between r a g =
-    by_le_z (pos 0) a
-    (λ p. let h = share-between_up r a g p in record
-    { above = omega (arith, ints, clamps); below = omega (arith, ints, clamps) })
-    (λ p. let h = share-between_down r a g p in record
-    { above = omega (arith, ints, clamps); below = omega (arith, ints, clamps) })
-
-pub keep-between : (r : Rounding) (a g : ℤ) → Holds (join (point (pos 0)) (point a)) (keep r a g)
-keep-between r a g =
-    by_le_z (pos 0) a
-    (λ p. let h = keep-between_up r a g p in record
-    { above = omega (arith, ints, clamps); below = omega (arith, ints, clamps) })
-    (λ p. let h = keep-between_down r a g p in record
-    { above = omega (arith, ints, clamps); below = omega (arith, ints, clamps) })
-
+-- so a blend lies between what is there and what is added
 pub blend-between : (r : Rounding) (c d m v : ℤ) → Holds (join (point c) (point d)) (blend r c d m v)
+unfolding blend
 blend-between r c d m v =
-    by_le_z c d
-    (λ p. let h = blend-between_up r c d m v p in record
-    { above = omega (arith, ints, clamps); below = omega (arith, ints, clamps) })
-    (λ p. let h = blend-between_down r c d m v p in record
-    { above = omega (arith, ints, clamps); below = omega (arith, ints, clamps) })
+    let w = divisor v in
+    let n = part w m in
+    let low = part-above w m in
+    let high = part-below w m (omega (arith, ints, one-le_divisor v)) in
+    let both = quotient-between_whole r (int_min c d) (int_max c d) (weighed c d w n) w (one-le_divisor v)
+    (weighed-over (int_min c d) c d w n low high (omega (arith, ints, clamps)) (omega (arith, ints, clamps)))
+    (weighed-under (int_max c d) c d w n low high (omega (arith, ints, clamps)) (omega (arith, ints, clamps))) in
+    record { above = both.0; below = both.1 }
+
+-- a share is a blend of 0 with its whole: so it rises with the whole, with the ppm where the whole is not negative, and
+-- lies from 0 to the whole
+share-is_blend : (r : Rounding) (a g : ℤ) → share r a g ≡ blend r (pos 0) a g million
+unfolding share blend
+share-is_blend r a g =
+    let n = part million g in
+    let same : a *ℤ n ≡ weighed (pos 0) a million n = omega (arith, ints) in
+    ap (λ (t : ℤ). quotient r t million) same
+
+pub share-rises : (r : Rounding) (a b g : ℤ) → a ≤ℤ b → share r a g ≤ℤ share r b g
+share-rises r a b g h =
+    omega (
+      arith,
+      ints,
+      share-is_blend r a g,
+      share-is_blend r b g,
+      blend-rises r (pos 0) (pos 0) a b g million (omega (arith, ints)) h,
+    )
+
+pub share-drawn : (r : Rounding) (a : ℤ) → IsDrawn (pos 0) a (share r a)
+share-drawn r a = drawn-after (pos 0) a (λ g. blend r (pos 0) a g million) (λ g. g) (share r a)
+    (blend-part r (pos 0) a million) (λ x y h. h) (share-is_blend r a)
+
+pub share-monotone : (r : Rounding) → IsMonotone2 (share r)
+share-monotone r = (
+  (λ g. rises (λ a. share r a g) (λ a b h. share-rises r a b g h)),
+  (λ a. drawn-monotone (pos 0) a (share r a) (share-drawn r a)),
+)
+
+pub share-between : (r : Rounding) (a g : ℤ) → Holds (join (point (pos 0)) (point a)) (share r a g)
+share-between r a g = subst (Holds (join (point (pos 0)) (point a))) (sym (share-is_blend r a g))
+    (blend-between r (pos 0) a g million)
+
+-- a share rises by at most as much as its whole
+share-gains : (r : Rounding) (a b g : ℤ) → a ≤ℤ b → share r b g ≤ℤ (share r a g +ℤ (b -ℤ a))
+unfolding share
+share-gains r a b g h =
+    let n = part million g in
+    let gain : ((b -ℤ a) *ℤ n) ≤ℤ ((b -ℤ a) *ℤ divisor million) =
+    le-times n million (b -ℤ a) (omega (arith, ints)) (part-below million g (omega (arith, ints))) in
+    let more : (b *ℤ n) ≤ℤ (a *ℤ n +ℤ (b -ℤ a) *ℤ divisor million) = omega (arith, ints, gain, sub-times b a n) in
+    omega (
+      arith,
+      ints,
+      quotient-rises r (b *ℤ n) (a *ℤ n +ℤ (b -ℤ a) *ℤ divisor million) million more,
+      quotient-shifts r (a *ℤ n) (b -ℤ a) million,
+    )
+
+-- `keep` rises with the whole, and falls with the ppm where the whole is not negative
+pub keep-rises : (r : Rounding) (a b g : ℤ) → a ≤ℤ b → keep r a g ≤ℤ keep r b g
+unfolding keep
+keep-rises r a b g h = omega (arith, ints, share-gains r a b g h)
+
+pub keep-drawn : (r : Rounding) (a : ℤ) → IsDrawn a (pos 0) (keep r a)
+unfolding keep
+keep-drawn r a = record {
+  up = λ g h p q. omega (arith, ints, (share-drawn r a).down g h p q);
+  down = λ g h p q. omega (arith, ints, (share-drawn r a).up g h p q);
+}
+
+pub keep-monotone : (r : Rounding) → IsMonotone2 (keep r)
+keep-monotone r = (
+  (λ g. rises (λ a. keep r a g) (λ a b h. keep-rises r a b g h)),
+  (λ a. drawn-monotone a (pos 0) (keep r a) (keep-drawn r a)),
+)
+
+-- what keep leaves lies from 0 to the number too
+pub keep-between : (r : Rounding) (a g : ℤ) → Holds (join (point (pos 0)) (point a)) (keep r a g)
+unfolding keep
+keep-between r a g =
+    let h = share-between r a g in
+    record { above = omega (arith, ints, clamps); below = omega (arith, ints, clamps) }
 
 -- so each fits where the numbers do
 between-around : (a b z : ℤ) (n : ℕ) → Holds (around n) a → Holds (around n) b → Holds (join (point a) (point b)) z →
@@ -374,10 +329,6 @@ gain-around r k a h p = gain-within r k a greatest_amount steepest greatest_cont
 
 pub keep-around : (r : Rounding) (a g : ℤ) (n : ℕ) → Holds (around n) a → Holds (around n) (keep r a g)
 keep-around r a g n h = between-around (pos 0) a (keep r a g) n (zero-around n) h (keep-between r a g)
-
-pub blend-around : (r : Rounding) (c d m v : ℤ) (n : ℕ) → Holds (around n) c → Holds (around n) d →
-    Holds (around n) (blend r c d m v)
-blend-around r c d m v n h k = between-around c d (blend r c d m v) n h k (blend-between r c d m v)
 
 -- the definitions, opened
 same-blend : (r : Rounding) (c d m w v n : ℤ) → w ≡ v → n ≡ part v m →

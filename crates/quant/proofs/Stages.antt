@@ -51,11 +51,6 @@ linear-monotone r f k w h =
 abbrev pub held : ℤ → ℤ → ℤ → ℤ → ℤ → ℤ → ℤ → ℤ
 held holdup slope x xa yb l v = (x *ℤ kept holdup slope l v +ℤ (xa *ℤ l) *ℤ million) +ℤ (yb *ℤ v) *ℤ million
 
-pub tray-is : (r : Rounding) (holdup slope x xa yb l v : ℤ) →
-    tray r holdup slope x xa yb l v ≡ quotient r (held holdup slope x xa yb l v) (holdup *ℤ million)
-unfolding tray
-tray-is r holdup slope x xa yb l v = refl
-
 -- how it grows with each content
 linear-own : (k p q : ℤ) → IsLinear (λ x. (x *ℤ k +ℤ p) +ℤ q) k
 linear-own k p q = record { grows = λ z d. omega (arith, ints, add-times z d k, *ℤ_comm d k) }

@@ -145,24 +145,22 @@ interval-inside r states inputs ws wi s i h k (rest_of t u) =
     (interval-band r states inputs s i u)
     (interval-inside r states inputs ws wi s i h k t) (interval-inside r states inputs ws wi s i h k u)
 interval-inside r states inputs ws wi s i h k (blend_of t u v w) =
-    hull4-inside (blend r) _ _ _ _ _ _ _ _ (blend-monotone r) (interval-band r states inputs s i t)
-    (interval-band r states inputs s i u)
-    (interval-band r states inputs s i v) (interval-band r states inputs s i w)
+    let band = interval-band r states inputs s i in
+    hull4-inside (blend r) _ _ _ _ _ _ _ _ (blend-monotone r) (band t) (band u) (band v) (band w)
     (interval-inside r states inputs ws wi s i h k t) (interval-inside r states inputs ws wi s i h k u)
     (interval-inside r states inputs ws wi s i h k v) (interval-inside r states inputs ws wi s i h k w)
 interval-inside r states inputs ws wi s i h k (gain_of g t) =
     hull1-inside (gain r g) _ _ (gain-monotone r g) (interval-band r states inputs s i t)
     (interval-inside r states inputs ws wi s i h k t)
 interval-inside r states inputs ws wi s i h k (mix_of t u v w) =
-    hull4-inside (mix r) _ _ _ _ _ _ _ _ (mix-monotone r) (interval-band r states inputs s i t)
-    (interval-band r states inputs s i u)
-    (interval-band r states inputs s i v) (interval-band r states inputs s i w)
+    let band = interval-band r states inputs s i in
+    hull4-inside (mix r) _ _ _ _ _ _ _ _ (mix-monotone r) (band t) (band u) (band v) (band w)
     (interval-inside r states inputs ws wi s i h k t) (interval-inside r states inputs ws wi s i h k u)
     (interval-inside r states inputs ws wi s i h k v) (interval-inside r states inputs ws wi s i h k w)
 interval-inside r states inputs ws wi s i h k (tray_of holdup slope t u v w z) =
-    hull5-inside (tray r holdup slope) _ _ _ _ _ _ _ _ _ _ (tray-monotone r holdup slope)
-    (interval-band r states inputs s i t) (interval-band r states inputs s i u)
-    (interval-band r states inputs s i v) (interval-band r states inputs s i w) (interval-band r states inputs s i z)
+    let band = interval-band r states inputs s i in
+    hull5-inside (tray r holdup slope) _ _ _ _ _ _ _ _ _ _ (tray-monotone r holdup slope) (band t) (band u) (band v)
+    (band w) (band z)
     (interval-inside r states inputs ws wi s i h k t) (interval-inside r states inputs ws wi s i h k u)
     (interval-inside r states inputs ws wi s i h k v) (interval-inside r states inputs ws wi s i h k w)
     (interval-inside r states inputs ws wi s i h k z)

@@ -70,9 +70,8 @@ risen r [] t = pos 0
 risen r (from ∷ []) t = pos 0
 risen r (from ∷ to ∷ rest) t = passed r from to t +ℤ risen r (to ∷ rest) t
 
--- The value of a table at t: its first value, and the rises that t has passed. Between two points it is linear,
--- outside it is
--- the first or the last value.
+-- The value of a table at t: its first value, and the rises that t has passed. Between two points it is linear, and
+-- outside it is the first or the last value.
 unfoldable pub lookup : Rounding → List (ℤ × ℤ) → ℤ → ℤ
 lookup r [] t = pos 0
 lookup r (first ∷ rest) t = first.1 +ℤ risen r (first ∷ rest) t

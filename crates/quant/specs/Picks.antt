@@ -1,4 +1,5 @@
--- Which of two numbers is taken: words for the contracts of private functions alone.
+-- Words of the proofs: a reader of the contracts needs none of them.
+-- Which of two numbers is taken.
 use Rattle.std.specs.Prelude.{◌≡◌, ℤ, ◌≤ℤ◌, ◌<ℤ◌}
 
 -- the first of two numbers where c is not above d, and else the second

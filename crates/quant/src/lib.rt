@@ -5,7 +5,6 @@ mod band;
 mod blends;
 mod ends;
 mod gains;
-mod instant;
 mod kind;
 mod laws;
 mod limits;
@@ -21,8 +20,7 @@ mod trays;
 pub use band::{Band, clamp, clamp_band};
 pub use blends::{blend, blend_band};
 pub use gains::{gain, gain_band};
-pub use instant::Instant;
-pub use kind::Kind;
+pub use kind::{Instant, Kind};
 pub use laws::{
     lookup_is_linear_between_points, operations_are_monotone, terms_at_points, terms_include,
     terms_narrow,
@@ -32,6 +30,6 @@ pub use lookups::{lookup, lookup_band};
 pub use mixes::{mix, mix_band};
 pub use rate_table::RateTable;
 pub use shares::{keep, keep_band, share, share_band};
-pub use sizes::{MILLION, STEEPEST, WIDEST};
+pub use sizes::MILLION;
 pub use sums::{add, add_band, sub, sub_band};
 pub use trays::{tray, tray_band};

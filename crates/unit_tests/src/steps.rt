@@ -37,7 +37,7 @@ pub fn show<K: Kind>(kind: &K, state: &[Band], outs: &mut [Band])
 /// What an instant kind gives, which lies in the limits.
 pub fn give<I: Instant>(kind: &I, ins: &[Band], outs: &mut [Band])
     requires sound { I.is_sound kind.now }
-    requires inputs { I.may_take_bands kind.now ins.now }
+    requires inputs { AllInside ins.now (I.input_limits kind.now) }
     requires room { length outs.old ≡ length (I.output_limits kind.now) }
     ensures { AllInside outs.new (I.output_limits kind.now) }
 {
@@ -47,7 +47,7 @@ pub fn give<I: Instant>(kind: &I, ins: &[Band], outs: &mut [Band])
 /// The same on numbers.
 pub fn give_point<I: Instant>(kind: &I, ins: &[i64], outs: &mut [i64])
     requires sound { I.is_sound kind.now }
-    requires inputs { I.may_take kind.now ins.now }
+    requires inputs { AllHold (I.input_limits kind.now) ins.now }
     requires room { length outs.old ≡ length (I.output_limits kind.now) }
 {
     kind.now_point(ins, outs);

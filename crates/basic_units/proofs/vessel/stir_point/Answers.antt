@@ -10,26 +10,24 @@ use Rattle.basic_units.proofs.Reactors.{blended-wide, read-wide}
 use Rattle.basic_units.proofs.vessel.stir_point.Goals as goal
 
 pub add-requires-clause-left : goal.add-requires-clause-left
-add-requires-clause-left c =
-    let h = c.requires.states.volume in
-    let k = c.keep.ensures.between in
+add-requires-clause-left c = let h = c.requires.states.volume in let k = c.keep.ensures.between in
     record { above = omega (arith, ints, clamps); below = omega (arith, ints, clamps) }
 
 pub returns : goal.returns
 returns c =
-    let k = c.args.k in
     let state = c.args.state.now in
     let ins = c.args.ins.now in
     let volume : ℤ = slice_index_or state 0 (pos 0) in
+    let v : to_z w64 (of_z w64 volume) ≡ volume = to_z-of_z w64 volume (search rules) in
     let conc : ℤ = slice_index_or state 2 (pos 0) in
     let temp : ℤ = slice_index_or state 3 (pos 0) in
     let in_flow : ℤ = slice_index_or ins 0 (pos 0) in
     let valve : ℤ = slice_index_or ins 3 (pos 0) in
-    let v : to_z w64 (of_z w64 volume) ≡ volume = to_z-of_z w64 volume (search rules) in
     let f : to_z w64 (of_z w64 in_flow) ≡ in_flow = to_z-of_z w64 in_flow (search rules) in
-    let part : ℤ = share Floor k valve in
+    let part : ℤ = share Floor c.args.k valve in
     let drained : to_z w64 (of_z w64 c.share-drained.result) ≡ part =
-    given2 (share Floor) _ _ _ k valve (search rules) c.share-drained.ensures.value (to_z-of_z w64 k c.ranges.k)
+    given2 (share Floor) _ _ _ c.args.k valve (search rules) c.share-drained.ensures.value
+    (to_z-of_z w64 c.args.k c.ranges.k)
     (to_z-of_z w64 valve (search rules)) in
     let kept : to_z w64 (of_z w64 c.keep.result) ≡ keep Floor volume part =
     given2 (keep Floor) _ _ _ volume part (search rules) c.keep.ensures.value v drained in

@@ -1,11 +1,11 @@
-use Rattle.std.proofs.Common.{◌≡◌, pos, ◌+ℤ◌, ◌-ℤ◌, ◌*ℤ◌, ℤ, to_z, of_z, sym, ◌∙◌, ap, subst, arith}
+use Rattle.std.proofs.Common.{◌≡◌, pos, ◌+ℤ◌, ◌-ℤ◌, ◌*ℤ◌, ℤ, to_z, of_z, sym, ◌∙◌, ap, arith}
 use Rattle.std.proofs.lemmas.Int.{ints, to_z-of_z}
 use Rattle.std.specs.Int.{w64, w128, int_max, int_min}
-use Rattle.quant.specs.Interval.{Holds, join, point}
+use Rattle.quant.specs.Interval.{Holds}
 use Rattle.quant.specs.Rounding.{quotient, Floor}
 use Rattle.quant.specs.Operation.{blend, part, volumes, amounts, greatest_amount, greatest_content}
-use Rattle.quant.proofs.Casts.{product-around, same-product, fits, sum-fits, sum-back, products}
-use Rattle.quant.proofs.Operations.{weighed, part-above, part-below, blend-is, blend-between, blend-around}
+use Rattle.quant.proofs.Casts.{product-around, same-product, fits, sum-fits, sum-back, products, IsFound, found-fits, found-read}
+use Rattle.quant.proofs.Operations.{weighed, part-above, part-below, blend-is, blend-between}
 use Rattle.quant.proofs.blends.blend.Goals as goal
 
 -- what is kept and what is replaced are no more than the volume
@@ -65,34 +65,32 @@ overflow_add-weighed c =
     (c.args.c *ℤ (c.args.v -ℤ c.clamp-replaced.result)) (c.args.d *ℤ c.clamp-replaced.result)
     (first c.before.before) (second c) (first-around c.before.before) (second-around c)
 
-blended : (c : goal.After-from-4) →
-    quotient Floor
+blended : (c : goal.After-from-4) → IsFound c.args.c c.args.d
+    (quotient Floor
     (to_z w128 (of_z w128 (to_z w128 (of_z w128
     (to_z w128 (of_z w128 c.from.result) *ℤ to_z w128 (of_z w128 c.from-2.result)))
     +ℤ to_z w128 (of_z w128 (to_z w128 (of_z w128 c.from-3.result) *ℤ to_z w128 (of_z w128 c.from-4.result))))))
-    (to_z w64 (of_z w64 c.args.v))
-    ≡ blend Floor c.args.c c.args.d c.args.m c.args.v
+    (to_z w64 (of_z w64 c.args.v)))
+    (blend Floor c.args.c c.args.d c.args.m c.args.v)
 blended c =
     let sum = sum-back (to_z w128 (of_z w128 c.from.result) *ℤ to_z w128 (of_z w128 c.from-2.result))
     (to_z w128 (of_z w128 c.from-3.result) *ℤ to_z w128 (of_z w128 c.from-4.result))
     (c.args.c *ℤ (c.args.v -ℤ c.clamp-replaced.result)) (c.args.d *ℤ c.clamp-replaced.result)
     (first c.before.before) (second c) (first-around c.before.before) (second-around c)
     in
-    ap (λ (t : ℤ). quotient Floor t (to_z w64 (of_z w64 c.args.v))) sum
-    ∙ ap (quotient Floor (weighed c.args.c c.args.d c.args.v c.clamp-replaced.result))
-    (to_z-of_z w64 c.args.v c.ranges.v)
-    ∙ sym (blend-is Floor c.args.c c.args.d c.args.m c.args.v c.clamp-replaced.result c.requires.volume.above
-    (replaced c.before.before))
+    record {
+      held = (c.requires.old, c.requires.added);
+      between = blend-between Floor c.args.c c.args.d c.args.m c.args.v;
+      same = ap (λ (t : ℤ). quotient Floor t (to_z w64 (of_z w64 c.args.v))) sum
+          ∙ ap (quotient Floor (weighed c.args.c c.args.d c.args.v c.clamp-replaced.result))
+          (to_z-of_z w64 c.args.v c.ranges.v)
+          ∙ sym (blend-is Floor c.args.c c.args.d c.args.m c.args.v c.clamp-replaced.result c.requires.volume.above
+          (replaced c.before.before));
+    }
 
 pub floor_quotient-requires-clause-fits : goal.floor_quotient-requires-clause-fits
-floor_quotient-requires-clause-fits c =
-    let e = blended c in
-    let h = blend-around Floor c.args.c c.args.d c.args.m c.args.v greatest_content c.requires.old c.requires.added in
-    omega (arith, ints)
+floor_quotient-requires-clause-fits c = found-fits _ _ _ _ (blended c)
 
-pub returns-clause-value : goal.returns-clause-value
-returns-clause-value c = let e = c.floor_quotient.ensures ∙ blended c.before in omega (arith, ints)
-
-pub returns-clause-between : goal.returns-clause-between
-returns-clause-between c = subst (λ (z : ℤ). Holds (join (point c.args.c) (point c.args.d)) z)
-    (sym (returns-clause-value c)) (blend-between Floor c.args.c c.args.d c.args.m c.args.v)
+pub returns : goal.returns
+returns c = let read = found-read _ _ _ _ _ c.floor_quotient.ensures (blended c.before) in
+    record { value = read.0; between = read.1 }

@@ -1,4 +1,4 @@
-use Rattle.std.proofs.Common.{rules, ◌≡◌, pos, ◌+ℤ◌, ◌-◌, ◌+◌, to_z, of_z, get_or, drop, ap, ◌∙◌, subst, arith}
+use Rattle.std.proofs.Common.{rules, ◌≡◌, pos, ◌+ℤ◌, ◌-◌, ◌+◌, FitsSigned, to_z, of_z, get_or, drop, ap, ◌∙◌, subst, arith}
 use Rattle.std.proofs.lemmas.Int.{ints, to_z-of_z}
 use Rattle.std.proofs.lemmas.List.Elements.{All-get_or}
 use Rattle.std.specs.Int.{w64}
@@ -17,8 +17,16 @@ loop-i-init c =
     let p = All-get_or HasRate points 0 (pos 0, pos 0) (omega (arith, h.some)) h.each in
     under-way-start points (pos 0, pos 0) _ _ h (omega (arith, ints))
 
-pub overflow_add-rate : goal.overflow_add-rate
-overflow_add-rate c =
+-- the rise that is added, and the rate with it
+added : (c : After-passed-rate) →
+    let before = c.loop-i.i - 1 in
+    let points = c.as_slice-points.result.now in
+    let rise = passed Floor (get_or points before (pos 0, pos 0)) (get_or points c.loop-i.i (pos 0, pos 0))
+    (to_z w64 (of_z w64 c.args.t)) in
+    FitsSigned w64 (to_z w64 c.loop-i.rate-bits +ℤ to_z w64 (of_z w64 c.passed-rate.result))
+    × (to_z w64 (of_z w64 (to_z w64 c.loop-i.rate-bits +ℤ to_z w64 (of_z w64 c.passed-rate.result)))
+    ≡ to_z w64 c.loop-i.rate-bits +ℤ rise)
+added c =
     let points = c.as_slice-points.result.now in
     let w = c.loop-i.invariant in
     let u = under-way-points points c.loop-i.i (pos 0, pos 0) _ _ c.loop-i.auto.i c.loop-i-test.true w in
@@ -26,22 +34,16 @@ overflow_add-rate c =
     (get_or points c.loop-i.i (pos 0, pos 0)) (to_z w64 (of_z w64 c.args.t)) u.2 in
     let f = u.0 in
     let g = u.1 in
-    omega (arith, ints, c.passed-rate.ensures, u.3, w.above)
+    (omega (arith, ints, c.passed-rate.ensures, u.3, w.above), omega (arith, ints, c.passed-rate.ensures, u.3, w.above))
+
+pub overflow_add-rate : goal.overflow_add-rate
+overflow_add-rate c = (added c).0
 
 pub loop-i-preserved : goal.loop-i-preserved
 loop-i-preserved c =
     let points = c.as_slice-points.result.now in
-    let w = c.loop-i.invariant in
-    let u = under-way-points points c.loop-i.i (pos 0, pos 0) _ _ c.loop-i.auto.i c.loop-i-test.true w in
-    let b = passed-between Floor (get_or points (c.loop-i.i - 1) (pos 0, pos 0))
-    (get_or points c.loop-i.i (pos 0, pos 0)) (to_z w64 (of_z w64 c.args.t)) u.2 in
-    let f = u.0 in
-    let g = u.1 in
-    let e : to_z w64 (of_z w64 (to_z w64 c.loop-i.rate-bits +ℤ to_z w64 (of_z w64 c.passed-rate.result)))
-    ≡ to_z w64 c.loop-i.rate-bits +ℤ passed Floor (get_or points (c.loop-i.i - 1) (pos 0, pos 0))
-    (get_or points c.loop-i.i (pos 0, pos 0)) (to_z w64 (of_z w64 c.args.t)) =
-    omega (arith, ints, c.passed-rate.ensures, u.3, w.above) in
-    let next = under-way-more points c.loop-i.i (pos 0, pos 0) _ _ _ c.loop-i.auto.i c.loop-i-test.true w e in
+    let next = under-way-more points c.loop-i.i (pos 0, pos 0) _ _ _ c.loop-i.auto.i c.loop-i-test.true
+    c.loop-i.invariant (added c).1 in
     let back : c.loop-i.i ≡ c.loop-i.i + 1 - 1 = omega arith in
     subst (λ n. IsUnderWay points (drop n points) (to_z w64 (of_z w64 c.args.t))
     (to_z w64 (of_z w64 (to_z w64 c.loop-i.rate-bits +ℤ to_z w64 (of_z w64 c.passed-rate.result))))) back next

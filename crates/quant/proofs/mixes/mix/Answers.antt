@@ -1,11 +1,11 @@
-use Rattle.std.proofs.Common.{rules, ◌≡◌, pos, ◌+ℤ◌, ◌*ℤ◌, ℤ, ◌≤ℤ◌, to_z, of_z, sym, ◌∙◌, ap, subst, arith}
+use Rattle.std.proofs.Common.{rules, ◌≡◌, pos, ◌+ℤ◌, ◌*ℤ◌, ℤ, ◌≤ℤ◌, to_z, of_z, sym, ◌∙◌, ap, arith}
 use Rattle.std.proofs.lemmas.Int.{ints, clamps, to_z-of_z}
 use Rattle.std.specs.Int.{w64, w128}
-use Rattle.quant.specs.Interval.{Holds, join, point}
+use Rattle.quant.specs.Interval.{Holds}
 use Rattle.quant.specs.Rounding.{quotient, Floor}
 use Rattle.quant.specs.Operation.{mix, flows, not_negative, amounts, greatest_amount, greatest_content}
-use Rattle.quant.proofs.Casts.{product-around, same-product, sum-fits, sum-back, products}
-use Rattle.quant.proofs.Mixing.{both, mix-flows, mix-still, mix-between, mix-around}
+use Rattle.quant.proofs.Casts.{product-around, same-product, sum-fits, sum-back, products, IsFound, found-fits, found-read}
+use Rattle.quant.proofs.Mixing.{both, mix-flows, mix-still, mix-between}
 use Rattle.quant.proofs.mixes.mix.Goals as goal
 
 pub returns-then-both-eq0-clause-value : goal.returns-then-both-eq0-clause-value
@@ -54,13 +54,13 @@ same_mix c d m n k l t e f g =
     ap (λ (x : ℤ). quotient Floor (c *ℤ x +ℤ d *ℤ n) t) e ∙ ap (λ (x : ℤ). quotient Floor (c *ℤ k +ℤ d *ℤ x) t) f ∙
     ap (quotient Floor (c *ℤ k +ℤ d *ℤ l)) g
 
-mixed : (c : goal.After-from-4) →
-    quotient Floor
+mixed : (c : goal.After-from-4) → IsFound c.args.c c.args.d
+    (quotient Floor
     (to_z w128 (of_z w128 (to_z w128 (of_z w128
     (to_z w128 (of_z w128 c.from.result) *ℤ to_z w128 (of_z w128 c.from-2.result)))
     +ℤ to_z w128 (of_z w128 (to_z w128 (of_z w128 c.from-3.result) *ℤ to_z w128 (of_z w128 c.from-4.result))))))
-    (to_z w64 (of_z w64 (to_z w64 (of_z w64 c.args.m) +ℤ to_z w64 (of_z w64 c.args.n))))
-    ≡ mix Floor c.args.c c.args.d c.args.m c.args.n
+    (to_z w64 (of_z w64 (to_z w64 (of_z w64 c.args.m) +ℤ to_z w64 (of_z w64 c.args.n)))))
+    (mix Floor c.args.c c.args.d c.args.m c.args.n)
 mixed c =
     let h = c.requires.first_flow in
     let k = c.requires.second_flow in
@@ -74,24 +74,23 @@ mixed c =
     (to_z w128 (of_z w128 c.from-3.result) *ℤ to_z w128 (of_z w128 c.from-4.result))
     (c.args.c *ℤ c.args.m) (c.args.d *ℤ c.args.n) (first c) (second c) (first-around c) (second-around c)
     in
-    ap (λ (t : ℤ). quotient Floor t (to_z w64 (of_z w64
-    (to_z w64 (of_z w64 c.args.m) +ℤ to_z w64 (of_z w64 c.args.n))))) sum
-    ∙ same_mix c.args.c c.args.d c.args.m c.args.n (not_negative c.args.m) (not_negative c.args.n)
-    (to_z w64 (of_z w64 (to_z w64 (of_z w64 c.args.m) +ℤ to_z w64 (of_z w64 c.args.n)))) m n (omega (arith, ints))
-    ∙ sym (mix-flows Floor c.args.c c.args.d c.args.m c.args.n flows)
+    record {
+      held = (c.requires.first, c.requires.second);
+      between = mix-between Floor c.args.c c.args.d c.args.m c.args.n;
+      same = ap (λ (t : ℤ). quotient Floor t (to_z w64 (of_z w64
+          (to_z w64 (of_z w64 c.args.m) +ℤ to_z w64 (of_z w64 c.args.n))))) sum
+          ∙ same_mix c.args.c c.args.d c.args.m c.args.n (not_negative c.args.m) (not_negative c.args.n)
+          (to_z w64 (of_z w64 (to_z w64 (of_z w64 c.args.m) +ℤ to_z w64 (of_z w64 c.args.n)))) m n
+          (omega (arith, ints))
+          ∙ sym (mix-flows Floor c.args.c c.args.d c.args.m c.args.n flows);
+    }
 
 pub floor_quotient-requires-clause-fits : goal.floor_quotient-requires-clause-fits
-floor_quotient-requires-clause-fits c =
-    let e = mixed c in
-    let h = mix-around Floor c.args.c c.args.d c.args.m c.args.n greatest_content c.requires.first c.requires.second in
-    omega (arith, ints)
+floor_quotient-requires-clause-fits c = found-fits _ _ _ _ (mixed c)
 
-pub returns-clause-value : goal.returns-clause-value
-returns-clause-value c = let e = c.floor_quotient.ensures ∙ mixed c.before in omega (arith, ints)
-
-pub returns-clause-between : goal.returns-clause-between
-returns-clause-between c = subst (λ (z : ℤ). Holds (join (point c.args.c) (point c.args.d)) z)
-    (sym (returns-clause-value c)) (mix-between Floor c.args.c c.args.d c.args.m c.args.n)
+pub returns : goal.returns
+returns c = let read = found-read _ _ _ _ _ c.floor_quotient.ensures (mixed c.before) in
+    record { value = read.0; between = read.1 }
 
 pub overflow_add-both : goal.overflow_add-both
 overflow_add-both c = search rules

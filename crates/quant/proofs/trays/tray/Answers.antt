@@ -108,20 +108,8 @@ returns-clause-size c =
     c.requires.above c.requires.below
     c.requires.holdup c.requires.slope c.requires.liquid c.requires.vapour c.requires.drainable)
 
-pub kept-requires-clause-liquid : goal.kept-requires-clause-liquid
-kept-requires-clause-liquid c = search rules
-
-pub kept-requires-clause-vapour : goal.kept-requires-clause-vapour
-kept-requires-clause-vapour c = search rules
-
-pub kept-requires-clause-holdup : goal.kept-requires-clause-holdup
-kept-requires-clause-holdup c = search rules
-
-pub kept-requires-clause-slope : goal.kept-requires-clause-slope
-kept-requires-clause-slope c = search rules
-
-pub kept-requires-clause-drainable : goal.kept-requires-clause-drainable
-kept-requires-clause-drainable c = search rules
+pub kept-requires : goal.kept-requires
+kept-requires c = search rules
 
 pub overflow_mul-l : goal.overflow_mul-l
 overflow_mul-l c = search rules

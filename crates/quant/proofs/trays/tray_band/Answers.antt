@@ -4,35 +4,38 @@ use Rattle.std.proofs.Common.{ℤ, ◌*ℤ◌, to_z, of_z, rules, ap, refl}
 use Rattle.std.proofs.lemmas.Int.{to_z-of_z}
 use Rattle.std.specs.Int.{w64}
 use Rattle.quant.specs.Interval.{wide}
-use Rattle.quant.specs.Hull.{hull5, IsHull, IsValue5}
+use Rattle.quant.specs.Hull.{hull5, IsValue5}
 use Rattle.quant.specs.Rounding.{Floor}
 use Rattle.quant.specs.Operation.{tray, million, contents}
-use Rattle.quant.proofs.Bands.{read-band, read-ends, read-high}
+use Rattle.quant.proofs.Bands.{is_read, read-high}
 use Rattle.quant.proofs.Calls.{given7}
 use Rattle.quant.proofs.Casts.{same-product}
-use Rattle.quant.proofs.Hulls.{one_hull, hull5-exact, holds-band}
+use Rattle.quant.proofs.Hulls.{hull5-exact, holds-band}
 use Rattle.quant.proofs.Stages.{tray-monotone}
-use Rattle.quant.proofs.Corners.{takes, tray-drawn, least-drawn, greatest-drawn, flow-held, drainable-held, stage-corners, stage-pushes, hull-ordered}
+use Rattle.quant.proofs.Corners.{takes, tray-drawn, least-drawn, greatest-drawn, flow-held, drainable-held, stage-corners, stage-pushes, IsMade, made}
 use Rattle.quant.proofs.trays.tray_band.Goals.{After-tray-2}
 use Rattle.quant.proofs.trays.tray_band.Goals as goal
 
-exact : (c : After-tray-2) → IsHull (IsValue5 (tray Floor c.args.holdup c.args.slope) c.args.x c.args.xa c.args.yb
-    c.args.l c.args.v)
+whole : (c : After-tray-2) →
+    IsMade (IsValue5 (tray Floor c.args.holdup c.args.slope) c.args.x c.args.xa c.args.yb c.args.l c.args.v)
+    (hull5 (tray Floor c.args.holdup c.args.slope) c.args.x c.args.xa c.args.yb c.args.l c.args.v)
     (record { lo = to_z w64 (of_z w64 c.tray.result); hi = to_z w64 (of_z w64 c.tray-2.result) })
-exact c =
+whole c =
     let a = c.args in
-    let x = read-ends _ a.x c.x.view_is (search rules) (search rules) in
-    let xa = read-ends _ a.xa c.xa.view_is (search rules) (search rules) in
-    let yb = read-ends _ a.yb c.yb.view_is (search rules) (search rules) in
+    let X = is_read _ a.x c.x.view_is c.x.invariant (search rules) (search rules) in
+    let A = is_read _ a.xa c.xa.view_is c.xa.invariant (search rules) (search rules) in
+    let B = is_read _ a.yb c.yb.view_is c.yb.invariant (search rules) (search rules) in
+    let x = X.ends in
+    let xa = A.ends in
+    let yb = B.ends in
     let h = to_z-of_z w64 a.holdup c.ranges.holdup in
     let s = to_z-of_z w64 a.slope c.ranges.slope in
     let f = c.drawn_flows in
     let g = c.drawn_flows-2 in
     let l = holds-band a.l _ f.ensures.liquid.0 in
     let v = holds-band a.v _ f.ensures.vapour.0 in
-    stage-corners Floor a.holdup a.slope a.x a.xa a.yb a.l a.v _ _
-    (read-band _ _ c.x.view_is c.x.invariant) (read-band _ _ c.xa.view_is c.xa.invariant)
-    (read-band _ _ c.yb.view_is c.yb.invariant)
+    made _ _ _
+    (stage-corners Floor a.holdup a.slope a.x a.xa a.yb a.l a.v _ _ X.band A.band B.band
     (stage-pushes a.holdup a.slope a.l a.v c.requires.slope c.requires.liquid c.requires.vapour c.requires.drainable)
     (least-drawn _ _ _ _ _ a.l a.v _ _ _ (tray-drawn Floor a.holdup a.slope a.x.lo a.xa.lo a.yb.lo) l v
     (takes _ _ _ _ _ _ _ _ _ x.0 xa.0 refl refl f.ensures.least_liquid)
@@ -45,23 +48,15 @@ exact c =
     (takes _ _ _ _ _ _ _ _ _ (same-product _ _ _ _ x.1 s)
     (ap (λ (t : ℤ). t *ℤ million) yb.1) refl refl g.ensures.most_vapour)
     (given7 (tray Floor) _ _ _ _ _ _ _ _ _ _ _ _ _ _ _ (search rules) c.tray-2.ensures.value h s x.1 xa.1 yb.1
-    (to_z-of_z w64 g.result.1.0 (search rules)) (to_z-of_z w64 g.result.1.1 (search rules))))
+    (to_z-of_z w64 g.result.1.0 (search rules)) (to_z-of_z w64 g.result.1.1 (search rules)))))
+    (hull5-exact (tray Floor a.holdup a.slope) a.x a.xa a.yb a.l a.v X.band A.band B.band l v
+    (tray-monotone Floor a.holdup a.slope))
 
 pub invariant_of-result : goal.invariant_of-result
-invariant_of-result c = hull-ordered _ _ (exact c)
+invariant_of-result c = (whole c).ordered
 
-pub returns-clause-exact : goal.returns-clause-exact
-returns-clause-exact c = exact c
-
-pub returns-clause-hull : goal.returns-clause-hull
-returns-clause-hull c =
-    let a = c.args in
-    let f = c.drawn_flows.ensures in
-    one_hull _ _ (hull5 (tray Floor a.holdup a.slope) a.x a.xa a.yb a.l a.v) (exact c)
-    (hull5-exact (tray Floor a.holdup a.slope) a.x a.xa a.yb a.l a.v
-    (read-band _ _ c.x.view_is c.x.invariant) (read-band _ _ c.xa.view_is c.xa.invariant)
-    (read-band _ _ c.yb.view_is c.yb.invariant)
-    (holds-band a.l _ f.liquid.0) (holds-band a.v _ f.vapour.0) (tray-monotone Floor a.holdup a.slope))
+pub returns : goal.returns
+returns c = let m = whole c in record { hull = m.hull; exact = m.exact; size = search rules }
 
 pub tray-requires-clause-liquid : goal.tray-requires-clause-liquid
 tray-requires-clause-liquid c = flow-held c.args.l _ c.requires.liquid c.drawn_flows.ensures.liquid.0 (search rules)

@@ -1,5 +1,5 @@
 -- Each stream is mixed into those before it.
-use Rattle.std.proofs.Common.{◌≡◌, pos, ◌+◌, ◌-◌, ◌*◌, ◌<◌, ◌+ℤ◌, [], ◌∷◌, refl, length, ap, subst, ◌∙◌, lit<, arith}
+use Rattle.std.proofs.Common.{◌≡◌, pos, ◌+◌, ◌-◌, ◌*◌, ◌+ℤ◌, [], ◌∷◌, refl, ap, subst, ◌∙◌, lit<, rules, arith}
 use Rattle.std.proofs.lemmas.Int.{ints}
 use Rattle.std.specs.Prelude.{slice_index_or}
 use Rattle.quant.specs.Interval.{Interval, point}
@@ -10,7 +10,8 @@ use Rattle.quant.specs.Term.{interval}
 use Rattle.quant.proofs.Calls.{filled, same_cons, inside-length, read, hulled2, hulled4}
 use Rattle.basic_units.specs.Mixer.{flow_of, content_of, streams}
 use Rattle.basic_units.proofs.Reactors.{joined-wide}
-use Rattle.basic_units.proofs.Mixers.{AreMixedBands, flow-inside, content-inside, channel-room_bands, channel-inside, streams-length, flow-more_bands, content-more_bands, sum-inside}
+use Rattle.basic_units.proofs.Mixers.{AreMixedBands, channel-room, channel-inside, channels-inside, streams-length, flow-more_bands, content-more_bands, sum-inside}
+use Rattle.basic_units.proofs.Ranges.{flow-inside, content-inside}
 use Rattle.basic_units.proofs.mixer.MixerInstant.now_band.Goals as goal
 
 pub loop-i-init : goal.loop-i-init
@@ -19,66 +20,56 @@ loop-i-init c =
     let e = inside-length c.args.ins.now (streams c.args.self.now.inputs) c.requires.inputs in
     let n = streams-length c.args.self.now.inputs in
     let some = c.requires.sound.some in
-    let f = channel-inside c.args.self.now.inputs 0 0 0 c.args.ins.now c.index-ins-0.result c.requires.inputs
-    (omega (arith, c.requires.sound.some)) (lit< tt) (omega arith) c.index-ins-0.is in
+    let held = channels-inside _ 0 _ _ _ _ c.requires.inputs (omega (arith, c.requires.sound.some)) c.index-ins-0.is
+    c.index-ins-1.is c.index-ins-2.is in
+    let f = held.flow in
     record {
       flow_is = read ins 0 _ (omega arith) c.index-ins-0.is;
       conc_is = read ins 1 _ (omega arith) c.index-ins-1.is;
       temp_is = read ins 2 _ (omega arith) c.index-ins-2.is;
       flow_held = record { above = omega (arith, ints); below = omega (arith, ints) };
-      conc_held = channel-inside c.args.self.now.inputs 0 1 1 c.args.ins.now c.index-ins-1.result c.requires.inputs
-          (omega (arith, c.requires.sound.some)) (lit< tt) (omega arith) c.index-ins-1.is;
-      temp_held = channel-inside c.args.self.now.inputs 0 2 2 c.args.ins.now c.index-ins-2.result c.requires.inputs
-          (omega (arith, c.requires.sound.some)) (lit< tt) (omega arith) c.index-ins-2.is;
+      conc_held = held.conc;
+      temp_held = held.temp;
     }
 
 pub bounds-ins-i : goal.bounds-ins-i
 bounds-ins-i c =
-    let h = channel-room_bands c.args.self.now.inputs c.loop-i.i 0 c.args.ins.now c.requires.inputs c.loop-i-test.true
-    (lit< tt) in
+    let h = channel-room _ c.loop-i.i 0 _ (inside-length _ _ c.requires.inputs) c.loop-i-test.true (lit< tt) in
     omega arith
 
 pub bounds-ins-i-in-loop-i : goal.bounds-ins-i-in-loop-i
-bounds-ins-i-in-loop-i c =
-    let h = channel-room_bands c.args.self.now.inputs c.loop-i.i 1 c.args.ins.now c.requires.inputs c.loop-i-test.true
-    (lit< tt) in
-    omega arith
+bounds-ins-i-in-loop-i c = channel-room _ c.loop-i.i 1 _ (inside-length _ _ c.requires.inputs) c.loop-i-test.true (lit< tt)
 
 pub bounds-ins-i-in-loop-i-2 : goal.bounds-ins-i-in-loop-i-2
-bounds-ins-i-in-loop-i-2 c =
-    let h = channel-room_bands c.args.self.now.inputs c.loop-i.i 2 c.args.ins.now c.requires.inputs c.loop-i-test.true
-    (lit< tt) in
-    omega arith
+bounds-ins-i-in-loop-i-2 c = channel-room _ c.loop-i.i 2 _ (inside-length _ _ c.requires.inputs) c.loop-i-test.true (lit< tt)
 
-pub mix_band-conc-requires-clause-second : goal.mix_band-conc-requires-clause-second
-mix_band-conc-requires-clause-second c =
-    content-inside _ (channel-inside c.args.self.now.inputs c.loop-i.i 1
-    (3 * c.loop-i.i + 1) c.args.ins.now _ c.requires.inputs
-    c.loop-i-test.true (lit< tt) (omega arith) c.index-ins-i-in-loop-i.is)
+pub mix_band-conc-requires : goal.mix_band-conc-requires
+mix_band-conc-requires c =
+    let l = c.loop-i-test.true in
+    record {
+      first = search rules;
+      second = content-inside _ (channel-inside _ c.loop-i.i 1 _ _ _ c.requires.inputs l (lit< tt) refl
+          c.index-ins-i-in-loop-i.is);
+      first_flow = search rules;
+      second_flow = flow-inside _ (channel-inside _ c.loop-i.i 0 _ _ _ c.requires.inputs l (lit< tt) (omega arith)
+          c.index-ins-i.is);
+    }
 
-pub mix_band-conc-requires-clause-second_flow : goal.mix_band-conc-requires-clause-second_flow
-mix_band-conc-requires-clause-second_flow c =
-    flow-inside _ (channel-inside c.args.self.now.inputs c.loop-i.i 0
-    (3 * c.loop-i.i) c.args.ins.now _ c.requires.inputs
-    c.loop-i-test.true (lit< tt) (omega arith) c.index-ins-i.is)
-
-pub mix_band-temp-requires-clause-second : goal.mix_band-temp-requires-clause-second
-mix_band-temp-requires-clause-second c =
-    content-inside _ (channel-inside c.args.self.now.inputs c.loop-i.i 2
-    (3 * c.loop-i.i + 2) c.args.ins.now _ c.requires.inputs
-    c.loop-i-test.true (lit< tt) (omega arith) c.index-ins-i-in-loop-i-2.is)
-
-pub mix_band-temp-requires-clause-second_flow : goal.mix_band-temp-requires-clause-second_flow
-mix_band-temp-requires-clause-second_flow c =
-    flow-inside _ (channel-inside c.args.self.now.inputs c.loop-i.i 0
-    (3 * c.loop-i.i) c.args.ins.now _ c.requires.inputs
-    c.loop-i-test.true (lit< tt) (omega arith) c.index-ins-i.is)
+pub mix_band-temp-requires : goal.mix_band-temp-requires
+mix_band-temp-requires c =
+    let held = channels-inside _ _ _ _ _ _ c.requires.inputs c.loop-i-test.true c.index-ins-i.is
+    c.index-ins-i-in-loop-i.is c.index-ins-i-in-loop-i-2.is in
+    record {
+      first = search rules;
+      second = content-inside _ held.temp;
+      first_flow = search rules;
+      second_flow = flow-inside _ held.flow;
+    }
 
 pub add_band-flow-requires-clause-right : goal.add_band-flow-requires-clause-right
 add_band-flow-requires-clause-right c =
-    let h = channel-inside c.args.self.now.inputs c.loop-i.i 0
-    (3 * c.loop-i.i) c.args.ins.now c.index-ins-i.result c.requires.inputs c.loop-i-test.true (lit< tt)
-    (omega arith) c.index-ins-i.is in
+    let h = channel-inside _ c.loop-i.i 0 _ _ _ c.requires.inputs c.loop-i-test.true (lit< tt) (omega arith)
+    c.index-ins-i.is in
     record { above = omega (arith, ints); below = omega (arith, ints) }
 
 pub loop-i-preserved : goal.loop-i-preserved
@@ -96,15 +87,8 @@ loop-i-preserved c =
     read ins (3 * c.loop-i.i + 1) _ (omega arith) c.index-ins-i-in-loop-i.is in
     let t : c.index-ins-i-in-loop-i-2.result ≡ temp =
     read ins (3 * c.loop-i.i + 2) _ (omega arith) c.index-ins-i-in-loop-i-2.is in
-    let f = channel-inside c.args.self.now.inputs c.loop-i.i 0
-    (3 * c.loop-i.i) c.args.ins.now c.index-ins-i.result c.requires.inputs c.loop-i-test.true (lit< tt)
-    (omega arith) c.index-ins-i.is in
-    let g = channel-inside c.args.self.now.inputs c.loop-i.i 1
-    (3 * c.loop-i.i + 1) c.args.ins.now c.index-ins-i-in-loop-i.result c.requires.inputs c.loop-i-test.true (lit< tt)
-    (omega arith) c.index-ins-i-in-loop-i.is in
-    let h = channel-inside c.args.self.now.inputs c.loop-i.i 2
-    (3 * c.loop-i.i + 2) c.args.ins.now c.index-ins-i-in-loop-i-2.result c.requires.inputs c.loop-i-test.true (lit< tt)
-    (omega arith) c.index-ins-i-in-loop-i-2.is in
+    let held = channels-inside _ _ _ _ _ _ c.requires.inputs l c.index-ins-i.is c.index-ins-i-in-loop-i.is
+    c.index-ins-i-in-loop-i-2.is in
     let flow : Interval = interval Floor [] ins (flow_of (c.loop-i.i - 1)) in
     record {
       flow_is = hulled2 (hull2 ◌+ℤ◌) c.loop-i.flow c.index-ins-i.result c.add_band-flow.result flow more
@@ -117,11 +101,11 @@ loop-i-preserved c =
           c.index-ins-i.result c.mix_band-temp.result
           (interval Floor [] ins (content_of 2 (c.loop-i.i - 1))) temp flow more
           c.mix_band-temp.ensures.hull w.temp_is t w.flow_is m ∙ content-more_bands ins 2 c.loop-i.i c.loop-i.auto.i;
-      flow_held = sum-inside c.loop-i.i c.loop-i.flow c.index-ins-i.result c.add_band-flow.result w.flow_held f
+      flow_held = sum-inside c.loop-i.i c.loop-i.flow c.index-ins-i.result c.add_band-flow.result w.flow_held held.flow
           c.add_band-flow.ensures.exact;
-      conc_held = joined-wide c.loop-i.conc c.index-ins-i-in-loop-i.result c.mix_band-conc.result w.conc_held g
+      conc_held = joined-wide c.loop-i.conc c.index-ins-i-in-loop-i.result c.mix_band-conc.result w.conc_held held.conc
           c.mix_band-conc.ensures.between;
-      temp_held = joined-wide c.loop-i.temp c.index-ins-i-in-loop-i-2.result c.mix_band-temp.result w.temp_held h
+      temp_held = joined-wide c.loop-i.temp c.index-ins-i-in-loop-i-2.result c.mix_band-temp.result w.temp_held held.temp
           c.mix_band-temp.ensures.between;
     }
 

@@ -1,5 +1,5 @@
 -- Each stream is mixed into those before it.
-use Rattle.std.proofs.Common.{◌≡◌, ℤ, pos, ◌+◌, ◌-◌, ◌*◌, ◌<◌, ◌+ℤ◌, to_z, of_z, rules, [], ◌∷◌, refl, length, subst, ◌∙◌, lit<, arith}
+use Rattle.std.proofs.Common.{◌≡◌, ℤ, pos, ◌+◌, ◌-◌, ◌*◌, ◌+ℤ◌, to_z, of_z, rules, [], ◌∷◌, refl, subst, ◌∙◌, lit<, arith}
 use Rattle.std.proofs.lemmas.Int.{ints, clamps, to_z-of_z}
 use Rattle.std.specs.Int.{w64}
 use Rattle.std.specs.Prelude.{slice_index_or}
@@ -7,8 +7,9 @@ use Rattle.quant.specs.Rounding.{Floor}
 use Rattle.quant.specs.Operation.{mix, clamp}
 use Rattle.quant.specs.Term.{value}
 use Rattle.quant.proofs.Calls.{filled, same_cons, held-length, given1, given2, given4}
-use Rattle.basic_units.specs.Mixer.{flow_of, content_of, streams}
-use Rattle.basic_units.proofs.Mixers.{AreMixed, channel-room, channels-held, flow-read, content-read, streams-length, flow-more, content-more}
+use Rattle.basic_units.specs.Mixer.{flow_of, content_of}
+use Rattle.basic_units.proofs.Mixers.{AreMixed, channel-room, channels-held, flow-more, content-more}
+use Rattle.basic_units.proofs.Ranges.{flow-read, content-read}
 use Rattle.basic_units.proofs.mixer.MixerInstant.now_point.Goals as goal
 
 pub loop-i-init : goal.loop-i-init
@@ -29,37 +30,24 @@ loop-i-init c =
 
 pub bounds-ins-i : goal.bounds-ins-i
 bounds-ins-i c =
-    let h = channel-room c.args.self.now.inputs c.loop-i.i 0 c.args.ins.now c.requires.inputs c.loop-i-test.true
-    (lit< tt) in
+    let h = channel-room _ c.loop-i.i 0 _ (held-length _ _ c.requires.inputs) c.loop-i-test.true (lit< tt) in
     omega arith
 
 pub bounds-ins-i-in-loop-i : goal.bounds-ins-i-in-loop-i
-bounds-ins-i-in-loop-i c =
-    let h = channel-room c.args.self.now.inputs c.loop-i.i 1 c.args.ins.now c.requires.inputs c.loop-i-test.true
-    (lit< tt) in
-    omega arith
+bounds-ins-i-in-loop-i c = channel-room _ c.loop-i.i 1 _ (held-length _ _ c.requires.inputs) c.loop-i-test.true (lit< tt)
 
 pub bounds-ins-i-in-loop-i-2 : goal.bounds-ins-i-in-loop-i-2
-bounds-ins-i-in-loop-i-2 c =
-    let h = channel-room c.args.self.now.inputs c.loop-i.i 2 c.args.ins.now c.requires.inputs c.loop-i-test.true
-    (lit< tt) in
-    omega arith
+bounds-ins-i-in-loop-i-2 c = channel-room _ c.loop-i.i 2 _ (held-length _ _ c.requires.inputs) c.loop-i-test.true (lit< tt)
 
-pub mix-conc-requires-clause-second : goal.mix-conc-requires-clause-second
-mix-conc-requires-clause-second c =
-    content-read _ (channels-held _ _ _ c.requires.inputs c.loop-i-test.true).conc
+pub mix-conc-requires : goal.mix-conc-requires
+mix-conc-requires c =
+    let held = channels-held _ _ _ c.requires.inputs c.loop-i-test.true in
+    record { first = search rules; second = content-read _ held.conc; first_flow = search rules; second_flow = flow-read _ held.flow }
 
-pub mix-conc-requires-clause-second_flow : goal.mix-conc-requires-clause-second_flow
-mix-conc-requires-clause-second_flow c =
-    flow-read _ (channels-held _ _ _ c.requires.inputs c.loop-i-test.true).flow
-
-pub mix-temp-requires-clause-second : goal.mix-temp-requires-clause-second
-mix-temp-requires-clause-second c =
-    content-read _ (channels-held _ _ _ c.requires.inputs c.loop-i-test.true).temp
-
-pub mix-temp-requires-clause-second_flow : goal.mix-temp-requires-clause-second_flow
-mix-temp-requires-clause-second_flow c =
-    flow-read _ (channels-held _ _ _ c.requires.inputs c.loop-i-test.true).flow
+pub mix-temp-requires : goal.mix-temp-requires
+mix-temp-requires c =
+    let held = channels-held _ _ _ c.requires.inputs c.loop-i-test.true in
+    record { first = search rules; second = content-read _ held.temp; first_flow = search rules; second_flow = flow-read _ held.flow }
 
 pub add-flow-requires-clause-right : goal.add-flow-requires-clause-right
 add-flow-requires-clause-right c =

@@ -1,5 +1,5 @@
 -- Each call gives what its term is, from the innermost outward.
-use Rattle.std.proofs.Common.{◌≡◌, ℤ, pos, ◌+ℤ◌, rules, [], ◌∷◌, ◌<◌, length, ap, ◌∙◌, arith}
+use Rattle.std.proofs.Common.{◌≡◌, ℤ, pos, ◌+ℤ◌, rules, [], ◌∷◌, ap, ◌∙◌, arith}
 use Rattle.std.proofs.lemmas.Int.{ints, to_z-of_z}
 use Rattle.std.specs.Int.{w64}
 use Rattle.std.specs.Prelude.{slice_index_or}
@@ -14,6 +14,7 @@ use Rattle.quant.proofs.Terms.{place-inside}
 use Rattle.basic_units.specs.Reactor.{state_limits, input_limits}
 use Rattle.basic_units.specs.Vessel.{volume_after, outflow, blended, warmed}
 use Rattle.basic_units.proofs.Vessels.{are_state_bands, are_input_bands, four_same}
+use Rattle.basic_units.proofs.Ranges.{content-inside}
 use Rattle.basic_units.proofs.Reactors.{from_zero-wide, heated-inside}
 use Rattle.basic_units.proofs.reactor.ReactorKind.next_band.Goals as goal
 
@@ -26,9 +27,7 @@ stir_band-stirred-requires-clause-inputs c = are_input_bands (wide ∷ []) c.arg
 
 pub bounds-state-3 : goal.bounds-state-3
 bounds-state-3 c =
-    let e = inside-length c.args.state.now (state_limits c.args.self.now) c.requires.states in
-    let h : 3 < length c.args.state.now = omega arith in
-    h
+    let e = inside-length c.args.state.now (state_limits c.args.self.now) c.requires.states in omega arith
 
 pub gain_band-requires-clause-number : goal.gain_band-requires-clause-number
 gain_band-requires-clause-number c =
@@ -41,15 +40,10 @@ add_band-heated-requires-clause-left c =
     record { above = omega (arith, ints); below = omega (arith, ints) }
 
 pub keep_band-requires : goal.keep_band-requires
-keep_band-requires c =
-    let h = c.stir_band-stirred.ensures.wide.0 in
-    record { above = omega (arith, ints); below = omega (arith, ints) }
+keep_band-requires c = content-inside _ c.stir_band-stirred.ensures.wide.0
 
 pub bounds-ins-4 : goal.bounds-ins-4
-bounds-ins-4 c =
-    let e = inside-length c.args.ins.now input_limits c.requires.inputs in
-    let h : 4 < length c.args.ins.now = omega arith in
-    h
+bounds-ins-4 c = let e = inside-length c.args.ins.now input_limits c.requires.inputs in omega arith
 
 pub blend_band-requires-clause-old : goal.blend_band-requires-clause-old
 blend_band-requires-clause-old c =
@@ -63,9 +57,8 @@ blend_band-requires-clause-old c =
 pub blend_band-requires-clause-added : goal.blend_band-requires-clause-added
 blend_band-requires-clause-added c =
     let e = inside-length c.args.ins.now input_limits c.requires.inputs in
-    let h = read-inside c.args.ins.now 4 c.index-ins-4.result _ (omega arith) c.index-ins-4.is
-    (place-inside c.args.ins.now input_limits 4 c.requires.inputs) in
-    record { above = omega (arith, ints); below = omega (arith, ints) }
+    content-inside _ (read-inside c.args.ins.now 4 c.index-ins-4.result _ (omega arith) c.index-ins-4.is
+    (place-inside c.args.ins.now input_limits 4 c.requires.inputs))
 
 pub returns : goal.returns
 returns c =

@@ -1,5 +1,5 @@
 -- Each call gives what its term is, from the innermost outward.
-use Rattle.std.proofs.Common.{◌≡◌, ℤ, pos, ◌+ℤ◌, to_z, of_z, rules, ◌<◌, length, refl, ap, ◌∙◌, arith}
+use Rattle.std.proofs.Common.{◌≡◌, ℤ, pos, ◌+ℤ◌, to_z, of_z, rules, refl, ap, ◌∙◌, arith}
 use Rattle.std.proofs.lemmas.Int.{ints, to_z-of_z}
 use Rattle.std.specs.Int.{w64}
 use Rattle.std.specs.Prelude.{slice_index_or}
@@ -11,6 +11,7 @@ use Rattle.quant.proofs.Terms.{place-holds}
 use Rattle.basic_units.specs.Reactor.{input_limits}
 use Rattle.basic_units.specs.Vessel.{volume_after, outflow, blended, warmed}
 use Rattle.basic_units.proofs.Vessels.{are_states, four_same}
+use Rattle.basic_units.proofs.Ranges.{content-read}
 use Rattle.basic_units.proofs.Reactors.{shared-wide, heated-around}
 use Rattle.basic_units.proofs.reactor.ReactorKind.next_point.Goals as goal
 
@@ -24,15 +25,10 @@ gain-requires-clause-number c =
     record { above = omega (arith, ints); below = omega (arith, ints) }
 
 pub keep-requires : goal.keep-requires
-keep-requires c =
-    let h = c.stir_point-stirred.ensures.wide.0 in
-    record { above = omega (arith, ints); below = omega (arith, ints) }
+keep-requires c = content-read _ c.stir_point-stirred.ensures.wide.0
 
 pub bounds-ins-4 : goal.bounds-ins-4
-bounds-ins-4 c =
-    let e = held-length input_limits c.args.ins.now c.requires.inputs in
-    let h : 4 < length c.args.ins.now = omega arith in
-    h
+bounds-ins-4 c = let e = held-length input_limits c.args.ins.now c.requires.inputs in omega arith
 
 pub blend-requires-clause-old : goal.blend-requires-clause-old
 blend-requires-clause-old c =
@@ -43,14 +39,11 @@ blend-requires-clause-old c =
     record { above = omega (arith, ints); below = omega (arith, ints) }
 
 pub blend-requires-clause-added : goal.blend-requires-clause-added
-blend-requires-clause-added c =
-    let h = place-holds input_limits c.args.ins.now 4 c.requires.inputs in
-    record { above = omega (arith, ints); below = omega (arith, ints) }
+blend-requires-clause-added c = content-read _ (place-holds input_limits c.args.ins.now 4 c.requires.inputs)
 
 pub returns : goal.returns
 returns c =
     let reactor = c.args.self.now in
-    let l = reactor.limits in
     let state = c.args.state.now in
     let ins = c.args.ins.now in
     let s = c.stir_point-stirred in
@@ -75,7 +68,8 @@ returns c =
     given2 ◌+ℤ◌ (to_z w64 (of_z w64 s.result.temp)) (to_z w64 (of_z w64 c.gain.result)) _ warm
     (gain Floor reactor.heat reacts) (search rules) c.add-heated.ensures
     (to_z-of_z w64 s.result.temp (search rules) ∙ s.ensures.temp) heat in
-    c.put_point.ensures ∙ four_same (clamp l.volume) (clamp l.flow) (clamp l.conc) (clamp l.temp) _ _ _ _ _ _ _ _
+    c.put_point.ensures ∙ four_same (clamp reactor.limits.volume) (clamp reactor.limits.flow)
+    (clamp reactor.limits.conc) (clamp reactor.limits.temp) _ _ _ _ _ _ _ _
     (to_z-of_z w64 s.result.volume (search rules) ∙ s.ensures.volume ∙
     ap (λ (k : ℤ). value Floor state ins (volume_after k)) drains)
     (to_z-of_z w64 s.result.flow (search rules) ∙ s.ensures.flow ∙

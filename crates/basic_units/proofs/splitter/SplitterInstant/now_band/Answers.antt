@@ -1,42 +1,35 @@
 -- Each call gives what its term is, from the innermost outward.
-use Rattle.std.proofs.Common.{◌≡◌, pos, rules, [], ◌∷◌, refl, ap, ◌∙◌, ◌<◌, length, arith}
+use Rattle.std.proofs.Common.{◌≡◌, pos, List, get_or, rules, refl, ap, ◌∙◌, arith}
 use Rattle.std.proofs.lemmas.Int.{ints, to_z-of_z}
 use Rattle.std.specs.Int.{w64}
 use Rattle.std.specs.Prelude.{slice_index_or}
-use Rattle.quant.specs.Interval.{Interval, point}
+use Rattle.quant.specs.Interval.{Interval, AllInside, IsInside, point}
 use Rattle.quant.specs.Hull.{hull1, hull2}
 use Rattle.quant.specs.Rounding.{Floor}
-use Rattle.quant.specs.Operation.{share, keep, clamp}
-use Rattle.quant.proofs.Calls.{filled, same_cons, hulled2, read, read-inside, inside-length}
+use Rattle.quant.specs.Operation.{contents, share, keep, clamp}
+use Rattle.quant.proofs.Calls.{same_cons, hulled2, read, read-inside, inside-length}
 use Rattle.quant.proofs.Terms.{place-inside}
 use Rattle.basic_units.specs.Splitter.{input_limits}
 use Rattle.basic_units.proofs.splitter.SplitterInstant.now_band.Goals as goal
 
+-- the rows are as long as their limits, and no share of the flow is too great
+flow-taken : (ins : List Interval) (A : Interval) → AllInside ins input_limits → A ≡ get_or ins 0 A → IsInside A contents
+flow-taken ins A h e =
+    let n = inside-length ins input_limits h in
+    let k = read-inside ins 0 A _ (omega arith) e (place-inside ins input_limits 0 h) in
+    record { above = omega (arith, ints); below = omega (arith, ints) }
+
 pub bounds-ins-1 : goal.bounds-ins-1
-bounds-ins-1 c =
-    let e = inside-length c.args.ins.now input_limits c.requires.inputs in
-    let h : 1 < length c.args.ins.now = omega arith in
-    h
+bounds-ins-1 c = let n = inside-length c.args.ins.now input_limits c.requires.inputs in omega arith
 
 pub bounds-ins-2 : goal.bounds-ins-2
-bounds-ins-2 c =
-    let e = inside-length c.args.ins.now input_limits c.requires.inputs in
-    let h : 2 < length c.args.ins.now = omega arith in
-    h
+bounds-ins-2 c = let n = inside-length c.args.ins.now input_limits c.requires.inputs in omega arith
 
 pub share_band-requires : goal.share_band-requires
-share_band-requires c =
-    let e = inside-length c.args.ins.now input_limits c.requires.inputs in
-    let h = read-inside c.args.ins.now 0 c.index-ins-0.result _ (omega arith) c.index-ins-0.is
-    (place-inside c.args.ins.now input_limits 0 c.requires.inputs) in
-    record { above = omega (arith, ints); below = omega (arith, ints) }
+share_band-requires c = flow-taken c.args.ins.now _ c.requires.inputs c.index-ins-0.is
 
 pub keep_band-requires : goal.keep_band-requires
-keep_band-requires c =
-    let e = inside-length c.args.ins.now input_limits c.requires.inputs in
-    let h = read-inside c.args.ins.now 0 c.index-ins-0-2.result _ (omega arith) c.index-ins-0-2.is
-    (place-inside c.args.ins.now input_limits 0 c.requires.inputs) in
-    record { above = omega (arith, ints); below = omega (arith, ints) }
+keep_band-requires c = flow-taken c.args.ins.now _ c.requires.inputs c.index-ins-0-2.is
 
 pub returns : goal.returns
 returns c =
@@ -60,26 +53,8 @@ returns c =
     let temp : c.clamp_band-temp.result ≡ hull1 (clamp splitter.limits.temp) in_temp =
     c.clamp_band-temp.ensures.hull ∙ ap (hull1 (clamp splitter.limits.temp))
     (read ins 2 _ (omega arith) c.index-ins-2.is) in
-    filled c.args.outs.now (_ ∷ _ ∷ _ ∷ _ ∷ _ ∷ _ ∷ []) c.requires.room
-    ∙ same_cons _ _ _ _ (c.clamp_band.ensures.hull ∙ ap (hull1 (clamp splitter.limits.flow)) first)
+    c.copy_from_slice.ensures.after ∙
+    same_cons _ _ _ _ (c.clamp_band-first.ensures.hull ∙ ap (hull1 (clamp splitter.limits.flow)) first)
     (same_cons _ _ _ _ conc (same_cons _ _ _ _ temp
-    (same_cons _ _ _ _ (c.clamp_band-2.ensures.hull ∙ ap (hull1 (clamp splitter.limits.flow)) second)
+    (same_cons _ _ _ _ (c.clamp_band-second.ensures.hull ∙ ap (hull1 (clamp splitter.limits.flow)) second)
     (same_cons _ _ _ _ conc (same_cons _ _ _ _ temp refl)))))
-
-pub bounds-outs-0 : goal.bounds-outs-0
-bounds-outs-0 c = search rules
-
-pub bounds-outs-1 : goal.bounds-outs-1
-bounds-outs-1 c = search rules
-
-pub bounds-outs-2 : goal.bounds-outs-2
-bounds-outs-2 c = search rules
-
-pub bounds-outs-3 : goal.bounds-outs-3
-bounds-outs-3 c = search rules
-
-pub bounds-outs-4 : goal.bounds-outs-4
-bounds-outs-4 c = search rules
-
-pub bounds-outs-5 : goal.bounds-outs-5
-bounds-outs-5 c = search rules

@@ -1,11 +1,11 @@
 -- Each call gives what its term is, from the innermost outward.
-use Rattle.std.proofs.Common.{◌≡◌, ℤ, pos, to_z, of_z, rules, [], ◌∷◌, refl, ◌∙◌}
+use Rattle.std.proofs.Common.{◌≡◌, ℤ, pos, to_z, of_z, rules, refl, ◌∙◌}
 use Rattle.std.proofs.lemmas.Int.{to_z-of_z}
 use Rattle.std.specs.Int.{w64}
 use Rattle.std.specs.Prelude.{slice_index_or}
 use Rattle.quant.specs.Rounding.{Floor}
 use Rattle.quant.specs.Operation.{share, keep, clamp}
-use Rattle.quant.proofs.Calls.{filled, same_cons, given1, given2}
+use Rattle.quant.proofs.Calls.{same_cons, given1, given2}
 use Rattle.basic_units.proofs.splitter.SplitterInstant.now_point.Goals as goal
 
 pub returns : goal.returns
@@ -27,10 +27,10 @@ returns c =
     given1 (clamp splitter.limits.conc) _ _ _ (search rules) c.clamp-conc.ensures.value d in
     let temp : to_z w64 (of_z w64 c.clamp-temp.result) ≡ clamp splitter.limits.temp in_temp =
     given1 (clamp splitter.limits.temp) _ _ _ (search rules) c.clamp-temp.ensures.value t in
-    filled c.args.outs.now (_ ∷ _ ∷ _ ∷ _ ∷ _ ∷ _ ∷ []) c.requires.room
-    ∙ same_cons _ _ _ _ (given1 (clamp splitter.limits.flow) _ _ _ (search rules) c.clamp.ensures.value first)
+    c.copy_from_slice.ensures.after ∙
+    same_cons _ _ _ _ (given1 (clamp splitter.limits.flow) _ _ _ (search rules) c.clamp-first.ensures.value first)
     (same_cons _ _ _ _ conc (same_cons _ _ _ _ temp
-    (same_cons _ _ _ _ (given1 (clamp splitter.limits.flow) _ _ _ (search rules) c.clamp-2.ensures.value second)
+    (same_cons _ _ _ _ (given1 (clamp splitter.limits.flow) _ _ _ (search rules) c.clamp-second.ensures.value second)
     (same_cons _ _ _ _ conc (same_cons _ _ _ _ temp refl)))))
 
 pub bounds-ins-0 : goal.bounds-ins-0
@@ -44,24 +44,6 @@ bounds-ins-1 c = search rules
 
 pub bounds-ins-2 : goal.bounds-ins-2
 bounds-ins-2 c = search rules
-
-pub bounds-outs-0 : goal.bounds-outs-0
-bounds-outs-0 c = search rules
-
-pub bounds-outs-1 : goal.bounds-outs-1
-bounds-outs-1 c = search rules
-
-pub bounds-outs-2 : goal.bounds-outs-2
-bounds-outs-2 c = search rules
-
-pub bounds-outs-3 : goal.bounds-outs-3
-bounds-outs-3 c = search rules
-
-pub bounds-outs-4 : goal.bounds-outs-4
-bounds-outs-4 c = search rules
-
-pub bounds-outs-5 : goal.bounds-outs-5
-bounds-outs-5 c = search rules
 
 pub keep-requires : goal.keep-requires
 keep-requires c = search rules

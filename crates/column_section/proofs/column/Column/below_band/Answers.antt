@@ -1,5 +1,5 @@
 -- From the stage below, or from outside.
-use Rattle.std.proofs.Common.{◌+◌, ◌<◌, ℤ, length, sym, ap, ◌∙◌, rules, lit<, arith}
+use Rattle.std.proofs.Common.{◌+◌, ℤ, sym, ap, ◌∙◌, rules, lit<, arith}
 use Rattle.std.proofs.lemmas.Int.{ints, to_z-of_z}
 use Rattle.std.specs.Int.{w64}
 use Rattle.quant.specs.Hull.{hull1}
@@ -16,10 +16,7 @@ bounds-state-i c = let n = bands-length c.args.self.now c.args.state.now c.requi
     (arith, c.if-i-self.true)
 
 pub bounds-ins-4 : goal.bounds-ins-4
-bounds-ins-4 c =
-    let e = inside-length c.args.ins.now input_limits c.requires.step.inputs.held in
-    let h : 4 < length c.args.ins.now = omega arith in
-    h
+bounds-ins-4 c = let e = inside-length c.args.ins.now input_limits c.requires.step.inputs.held in omega arith
 
 pub gain_band-requires-clause-number : goal.gain_band-requires-clause-number
 gain_band-requires-clause-number c =

@@ -1,5 +1,5 @@
 -- Each channel is clamped by its limits.
-use Rattle.std.proofs.Common.{[], ◌∷◌, refl, ap, ◌∙◌, ◌<◌, length, arith}
+use Rattle.std.proofs.Common.{[], ◌∷◌, refl, ap, ◌∙◌, arith}
 use Rattle.quant.specs.Hull.{hull1}
 use Rattle.quant.specs.Operation.{clamp}
 use Rattle.quant.proofs.Calls.{filled, same_cons, read, inside-length}
@@ -7,22 +7,13 @@ use Rattle.column_section.specs.Column.{input_limits}
 use Rattle.column_section.proofs.column.Column.register_band.Goals as goal
 
 pub bounds-ins-2 : goal.bounds-ins-2
-bounds-ins-2 c =
-    let e = inside-length c.args.ins.now input_limits c.requires.inputs.held in
-    let h : 2 < length c.args.ins.now = omega arith in
-    h
+bounds-ins-2 c = let e = inside-length c.args.ins.now input_limits c.requires.inputs.held in omega arith
 
 pub bounds-ins-3 : goal.bounds-ins-3
-bounds-ins-3 c =
-    let e = inside-length c.args.ins.now input_limits c.requires.inputs.held in
-    let h : 3 < length c.args.ins.now = omega arith in
-    h
+bounds-ins-3 c = let e = inside-length c.args.ins.now input_limits c.requires.inputs.held in omega arith
 
 pub bounds-ins-5 : goal.bounds-ins-5
-bounds-ins-5 c =
-    let e = inside-length c.args.ins.now input_limits c.requires.inputs.held in
-    let h : 5 < length c.args.ins.now = omega arith in
-    h
+bounds-ins-5 c = let e = inside-length c.args.ins.now input_limits c.requires.inputs.held in omega arith
 
 pub returns : goal.returns
 returns c =

@@ -1,5 +1,5 @@
 -- Each call gives what its term is, from the innermost outward.
-use Rattle.std.proofs.Common.{pos, ◌<◌, length, rules, ap, ◌∙◌, lit<, arith}
+use Rattle.std.proofs.Common.{pos, rules, ap, ◌∙◌, lit<, arith}
 use Rattle.std.proofs.lemmas.Int.{ints, to_z-of_z}
 use Rattle.std.specs.Int.{w64}
 use Rattle.std.specs.Prelude.{slice_index_or}
@@ -18,10 +18,7 @@ bounds-state-i c = let n = bands-length c.args.self.now c.args.state.now c.requi
     (arith, c.requires.stage)
 
 pub bounds-ins-3 : goal.bounds-ins-3
-bounds-ins-3 c =
-    let e = inside-length c.args.ins.now input_limits c.requires.step.inputs.held in
-    let h : 3 < length c.args.ins.now = omega arith in
-    h
+bounds-ins-3 c = let e = inside-length c.args.ins.now input_limits c.requires.step.inputs.held in omega arith
 
 pub tray_band-mixed-requires-clause-own : goal.tray_band-mixed-requires-clause-own
 tray_band-mixed-requires-clause-own c =
