@@ -34,18 +34,26 @@ impl<W: Write> Sink for StreamSink<W> {
     ghost faults = { λ s. s.faults };
 
     fn write(&mut self, piece: &[u8]) -> Result<(), WriteFault> {
-        let mut rest = piece;
-        while !rest.is_empty() {
-            match write_some(&mut self.stream, rest) {
-                Ok(n) if n > 0 => rest = &rest[n..],
-                _ => {
-                    self.faults = self.faults.saturating_add(1);
-                    return Err(WriteFault);
-                }
+        match write_whole(&mut self.stream, piece) {
+            Ok(()) => Ok(()),
+            Err(fault) => {
+                self.faults = self.faults.saturating_add(1);
+                Err(fault)
             }
         }
-        Ok(())
     }
+}
+
+/// Writes all of a piece. A write that takes nothing of it is a fault.
+pub fn write_whole<W: Write>(stream: &mut W, piece: &[u8]) -> Result<(), WriteFault> {
+    let mut rest = piece;
+    while !rest.is_empty() {
+        match write_some(stream, rest) {
+            Ok(n) if n > 0 => rest = &rest[n..],
+            _ => return Err(WriteFault),
+        }
+    }
+    Ok(())
 }
 
 /// Writes once, and again where a signal came in between.

@@ -1,9 +1,10 @@
 //! Calls of the program over devices that fail, and over words and texts of every sort.
 
-use crate::runs::{OPEN, Sinks, call};
+use crate::runs::{OPEN, Sinks, call, spoken};
 use crate::sources::{Plant, bytes_of};
-use crate::written::{Written, is_written, output_of};
+use crate::written::{TRACE_HEADER, Written, is_written, output_of};
 use flow_edge::{MemSource, Source, Status, ThinSource};
+use flow_top::files;
 use plant_texts::MIXED;
 use std::alloc::Global;
 use std::process::Abort;
@@ -22,17 +23,19 @@ struct Case {
     name: &'static str,
     words: &'static [&'static str],
     plant: Plant,
-    /// The calls that fail, counted from 1: reads of the plant, writes of the output and of the error line.
+    /// The calls that fail, counted from 1: reads of the plant, writes of the output, of the trace and of the error line.
     failing_reads: &'static [u64],
     failing_writes: &'static [u64],
+    failing_trace_writes: &'static [u64],
     failing_err_writes: &'static [u64],
     /// How many bytes the output takes.
     room: usize,
     status: Status,
     out: Written,
+    trace: Written,
     err: &'static str,
-    /// How many writes of the output and of the error line failed.
-    faults: (u64, u64),
+    /// How many writes of the output, of the trace and of the error line failed.
+    faults: (u64, u64, u64),
 }
 
 /// The worked text, with devices that do not fail.
@@ -42,18 +45,21 @@ const RUN: Case = Case {
     plant: Plant::With(&[]),
     failing_reads: &[],
     failing_writes: &[],
+    failing_trace_writes: &[],
     failing_err_writes: &[],
     room: 4096,
     status: Status::Done,
     out: Written::Text(OUTPUT),
+    trace: Written::Starts(TRACE_HEADER),
     err: "",
-    faults: (0, 0),
+    faults: (0, 0, 0),
 };
 
 /// The worked text's unit and its rank.
 const CHECK: Case = Case {
     words: &["check"],
     out: Written::Text(RANKS),
+    trace: NOTHING,
     ..RUN
 };
 
@@ -61,6 +67,7 @@ const CHECK: Case = Case {
 const REFUSED: Case = Case {
     status: Status::Refused,
     out: NOTHING,
+    trace: NOTHING,
     ..RUN
 };
 
@@ -69,6 +76,7 @@ const NO: Case = Case {
     words: &["check"],
     status: Status::No,
     out: NOTHING,
+    trace: NOTHING,
     ..RUN
 };
 
@@ -77,6 +85,7 @@ const WORDS: Case = Case {
     failing_reads: &[1],
     status: Status::Words,
     out: NOTHING,
+    trace: NOTHING,
     err: "flowrelax: words refused at 1\n",
     ..RUN
 };
@@ -85,6 +94,7 @@ const WORDS: Case = Case {
 const READ_FAULT: Case = Case {
     status: Status::ReadFault,
     out: NOTHING,
+    trace: NOTHING,
     err: "flowrelax: read fault on plant\n",
     ..RUN
 };
@@ -93,7 +103,7 @@ const READ_FAULT: Case = Case {
 const OUT_FAULT: Case = Case {
     status: Status::WriteFault,
     err: WRITE_FAULT,
-    faults: (1, 0),
+    faults: (1, 0, 0),
     ..RUN
 };
 
@@ -105,6 +115,7 @@ where
 {
     let sinks = Sinks {
         failing_writes: case.failing_writes,
+        failing_trace_writes: case.failing_trace_writes,
         failing_err_writes: case.failing_err_writes,
         room: case.room,
     };
@@ -113,6 +124,10 @@ where
     assert_eq!(rt; answer.status, case.status, "at {name}");
     assert!(rt;
         is_written(alloc, case.out, answer.out.as_slice())?,
+        "at {name}"
+    );
+    assert!(rt;
+        is_written(alloc, case.trace, answer.trace.as_slice())?,
         "at {name}"
     );
     assert_eq!(rt; answer.err.as_slice(), case.err.as_bytes(), "at {name}");
@@ -170,5 +185,24 @@ fn runs_every_kind(rt: HostRuntime) -> Result<(), Fail> {
     assert!(rt; answer.out.starts_with(first.as_bytes()));
     let lines = answer.out.iter().filter(|&&byte| byte == b'\n').count();
     assert_eq!(rt; lines, 1 + 64 * 29);
+    Ok(())
+}
+
+/// Words, and the position of the file of the trace among them.
+const NAMED: [(&[&str], Option<u32>); 5] = [
+    (&["run", "--journal", "trace.csv"], Some(3)),
+    (&["run", "--journal", "--journal"], Some(3)),
+    (&["run"], None),
+    (&["run", "--journal", "trace.csv", "x"], None),
+    (&["check"], None),
+];
+
+#[test]
+fn finds_the_file_of_the_trace(rt: HostRuntime) -> Result<(), Fail> {
+    for (words, place) in &NAMED {
+        let found = files(&spoken(rt.alloc(), words)?);
+        assert_eq!(rt; found.trace, *place);
+        assert_eq!(rt; found.extra, None);
+    }
     Ok(())
 }

@@ -1,6 +1,6 @@
 //! One call of the program over devices in memory.
 
-use flow_edge::{MemSink, NoSource, NullSink, OpenGate, Source, Status, Word};
+use flow_edge::{MemSink, NoSource, OpenGate, Source, Status, Word};
 use flow_top::flow_top;
 use std::alloc::Global;
 use std::process::Abort;
@@ -11,6 +11,7 @@ use std::thread::Threads;
 #[derive(Clone, Copy)]
 pub struct Sinks {
     pub failing_writes: &'static [u64],
+    pub failing_trace_writes: &'static [u64],
     pub failing_err_writes: &'static [u64],
     pub room: usize,
 }
@@ -18,17 +19,28 @@ pub struct Sinks {
 /// Sinks that do not fail, with room for every output here.
 pub const OPEN: Sinks = Sinks {
     failing_writes: &[],
+    failing_trace_writes: &[],
     failing_err_writes: &[],
     room: 200_000,
 };
 
-/// What the program answered, what it wrote, and how many writes of the output and of the error line failed.
+/// What the program answered, what it wrote, and how many writes of the output, of the trace and of the error line failed.
 #[derive(Drop)]
 pub struct Answer {
     pub status: Status,
     pub out: Vec<u8>,
+    pub trace: Vec<u8>,
     pub err: Vec<u8>,
-    pub faults: (u64, u64),
+    pub faults: (u64, u64, u64),
+}
+
+/// The words of these texts.
+pub fn spoken(alloc: Global, words: &[&str]) -> Result<Vec<Word>, Fail> {
+    let mut spoken = Vec::new(alloc);
+    for word in words {
+        spoken.push(Word::new(Vec::from_slice(alloc, word.as_bytes())?))?;
+    }
+    Ok(spoken)
 }
 
 /// Calls the program.
@@ -43,13 +55,12 @@ where
     R: Abort + Threads + Sync,
     S: Source,
 {
-    let mut spoken = Vec::new(alloc);
-    for word in words {
-        spoken.push(Word::new(Vec::from_slice(alloc, word.as_bytes())?))?;
-    }
+    let spoken = spoken(alloc, words)?;
     let failing_writes = Vec::from_slice(alloc, sinks.failing_writes)?;
     let failing_err_writes = Vec::from_slice(alloc, sinks.failing_err_writes)?;
+    let failing_trace_writes = Vec::from_slice(alloc, sinks.failing_trace_writes)?;
     let mut out = MemSink::new(alloc, sinks.room, failing_writes)?;
+    let mut trace = MemSink::new(alloc, 200_000, failing_trace_writes)?;
     let mut err = MemSink::new(alloc, 200, failing_err_writes)?;
     let status = flow_top(
         rt,
@@ -58,14 +69,15 @@ where
         plant,
         &mut NoSource,
         &mut out,
-        &mut NullSink,
+        &mut trace,
         &mut err,
         &OpenGate,
     );
     Ok(Answer {
         status,
         out: Vec::from_slice(alloc, out.given())?,
+        trace: Vec::from_slice(alloc, trace.given())?,
         err: Vec::from_slice(alloc, err.given())?,
-        faults: (out.faults(), err.faults()),
+        faults: (out.faults(), trace.faults(), err.faults()),
     })
 }

@@ -5,6 +5,8 @@ use std::test::Fail;
 
 pub const HEADER: &str = "tick,stream,channel,lo,hi\n";
 
+pub const TRACE_HEADER: &str = "window,step,stream,version,inputs\n";
+
 /// What is written.
 #[derive(Clone, Copy)]
 pub enum Written {
@@ -13,8 +15,11 @@ pub enum Written {
     /// its bands: of flow, conc and temp, or of a signal's value. A band is its one number, or its ends with `..`
     /// between.
     Ticks(&'static [&'static str]),
-    /// Whatever ends with this.
+    /// Whatever begins or ends with this.
+    Starts(&'static str),
     Ends(&'static str),
+    /// The header of a trace, and then the steps of window 0 with these streams, versions and inputs, in either order.
+    Steps([&'static str; 2]),
 }
 
 fn push_row(
@@ -55,11 +60,20 @@ pub fn output_of(alloc: Global, ticks: &[&str]) -> Result<String, Fail> {
     Ok(text)
 }
 
+/// Whether it is a trace of these two steps, in either order.
+fn are_steps(alloc: Global, [one, other]: [&str; 2], found: &[u8]) -> Result<bool, Fail> {
+    let text = format!(in alloc; "{TRACE_HEADER}0,0,{one}\n0,1,{other}\n")?;
+    let turned = format!(in alloc; "{TRACE_HEADER}0,0,{other}\n0,1,{one}\n")?;
+    Ok(found == text.as_bytes() || found == turned.as_bytes())
+}
+
 /// Whether it is what has to be written.
 pub fn is_written(alloc: Global, written: Written, found: &[u8]) -> Result<bool, Fail> {
     Ok(match written {
         Written::Text(text) => found == text.as_bytes(),
         Written::Ticks(ticks) => found == output_of(alloc, ticks)?.as_bytes(),
+        Written::Starts(start) => found.starts_with(start.as_bytes()),
         Written::Ends(end) => found.ends_with(end.as_bytes()),
+        Written::Steps(steps) => are_steps(alloc, steps, found)?,
     })
 }

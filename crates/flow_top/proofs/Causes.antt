@@ -15,17 +15,17 @@ use Rattle.flow_top.specs.declared.words.Command.TheVariants.{Run, Check}
 use Rattle.flow_top.specs.declared.fault.Stop.{Stop}
 use Rattle.flow_top.specs.declared.fault.End.{End}
 use Rattle.flow_top.specs.declared.fault.End.TheVariants.{Stopped}
-use Rattle.flow_top.specs.declared.fault.TopFault.{TopFault}
-use Rattle.flow_top.specs.declared.fault.TopFault.TheVariants as top
+use Rattle.report.specs.declared.fault.TopFault.{TopFault}
+use Rattle.report.specs.declared.fault.TopFault.TheVariants as top
 use Rattle.flow_top.specs.Words.{command_in}
 use Rattle.flow_top.specs.Faults.{fault_of_text, fault_of_plant, IsTextFault, own_status, status_of, stop_by}
 use Rattle.flow_top.specs.Faults as faults
 use Rattle.flow_top.specs.Judged.{Judgement, IsJudged, too_long, unreadable, unbuilt, built}
 use Rattle.flow_top.specs.Course.{Course}
 use Rattle.flow_top.specs.Courses.{IsWork}
-use Rattle.flow_top.specs.Lines.{fault_line, constant_line}
-use Rattle.flow_top.specs.Uses.{SourceUse, SinkUse, IsUnwritten, WasGiven}
-use Rattle.flow_top.specs.Ended.{Ended, misread, asked, CommandEnded, WorkEnded, course_end, SaysParts, IsRefused, Stood}
+use Rattle.report.specs.Lines.{fault_line, constant_line}
+use Rattle.flow_top.specs.Uses.{SourceUse, SinkUse, Sinks, IsUnwritten, AreUnwritten, WasGiven}
+use Rattle.flow_top.specs.Ended.{Ended, misread, asked, CommandEnded, WorkEnded, course_end, SaysParts, IsRefused, TraceStood, Stood, BrokeOff}
 use Rattle.flow_top.specs.Ended as ended
 use Rattle.flow_top.specs.Stands.{Said, SaidMemory, SaidStop}
 use Rattle.flow_top.specs.Causes.{IsEndOn, refusal, course, IsAtWork, WroteSome, WroteFront, WroteNoMore, SaysStop, Cause, AnswersOr, AnswersUnlessRead}
@@ -105,6 +105,28 @@ unfolding status_of own_status
 write_status Run = refl
 write_status Check = refl
 
+trace_status : (command : Command) → status_of command top.WriteTrace ≡ status.WriteFault
+unfolding status_of own_status
+trace_status Run = refl
+trace_status Check = refl
+
+broken_status : (command : Command) (course : Course) (sinks : Sinks) (fault : TopFault) → BrokeOff course sinks fault →
+    status_of command fault ≡ status.WriteFault
+broken_status command c sinks fault (ended.output broke trace) = write_status command
+broken_status command c sinks fault (ended.trace front trace rose) = trace_status command
+
+-- the line of a failed sink is constant
+broken_line : (course : Course) (sinks : Sinks) (fault : TopFault) → BrokeOff course sinks fault →
+    constant_line fault ≡ None → ⊥
+broken_line c sinks fault (ended.output broke trace) none = cc none
+broken_line c sinks fault (ended.trace front trace rose) none = cc none
+
+-- a sink that failed was counted
+broken_rose : (course : Course) (sinks : Sinks) (fault : TopFault) → BrokeOff course sinks fault →
+    ¬ Rose sinks.out.before sinks.out.now → ¬ Rose sinks.trace.before sinks.trace.now → ⊥
+broken_rose c sinks fault (ended.output broke trace) o t = o broke.fault
+broken_rose c sinks fault (ended.trace front trace rose) o t = t rose
+
 -- a fact of a text that is told holds at that text
 at_text : (o : Option (List ℕ)) (bytes : List ℕ) (P : List ℕ → Type 0) → o ≡ Some bytes → IfSome o P → P bytes
 at_text o bytes P t h = subst (λ o. IfSome o P) t h
@@ -151,24 +173,24 @@ memory_alone : (err : SinkUse) (result : Status) → SaidMemory err result → �
 memory_alone err result (inl s) r = inr s.1
 memory_alone err result (inr s) r = absurd (r s.0.fault)
 
-module _ (words : List (List ℕ)) (plant : SourceUse) (out err : SinkUse) (result : Status) where
-  no_more : IsUnwritten out ⊎ WroteSome words plant out → WroteNoMore words plant out
+module _ (words : List (List ℕ)) (plant : SourceUse) (sinks : Sinks) (err : SinkUse) (result : Status) where
+  no_more : AreUnwritten sinks ⊎ WroteSome words plant sinks → WroteNoMore words plant sinks
   no_more (inl u) = inl u
   no_more (inr w) = inr (inl w)
 
   -- the cause of what is answered where memory runs out
-  by_memory : SaidMemory err result → IsUnwritten out ⊎ WroteSome words plant out → Cause result words plant out err
-  by_memory (inl s) stood = subst (λ r. Cause r words plant out err) (sym s.1) (record { line = s.0; output = stood })
+  by_memory : SaidMemory err result → AreUnwritten sinks ⊎ WroteSome words plant sinks → Cause result words plant sinks err
+  by_memory (inl s) stood = subst (λ r. Cause r words plant sinks err) (sym s.1) (record { line = s.0; output = stood })
   by_memory (inr s) stood =
-      subst (λ r. Cause r words plant out err) (sym s.1) (inr (record { fault = s.0.fault; output = no_more stood }))
+      subst (λ r. Cause r words plant sinks err) (sym s.1) (inr (record { fault = s.0.fault; output = no_more stood }))
 
   -- the cause of what is answered at a stop
-  by_stop : (stop : Stop) → SaidStop stop err result → WroteNoMore words plant out →
-      (WasGiven err (fault_line stop.fault) → Cause stop.status words plant out err) →
-      (constant_line stop.fault ≡ None → IsUnwritten out ⊎ WroteSome words plant out) → Cause result words plant out err
-  by_stop stop (inl (inl s)) more own stood = subst (λ r. Cause r words plant out err) (sym s.1) (own s.0)
+  by_stop : (stop : Stop) → SaidStop stop err result → WroteNoMore words plant sinks →
+      (WasGiven err (fault_line stop.fault) → Cause stop.status words plant sinks err) →
+      (constant_line stop.fault ≡ None → AreUnwritten sinks ⊎ WroteSome words plant sinks) → Cause result words plant sinks err
+  by_stop stop (inl (inl s)) more own stood = subst (λ r. Cause r words plant sinks err) (sym s.1) (own s.0)
   by_stop stop (inl (inr s)) more own stood =
-      subst (λ r. Cause r words plant out err) (sym s.1) (inr (record { fault = s.0.fault; output = more }))
+      subst (λ r. Cause r words plant sinks err) (sym s.1) (inr (record { fault = s.0.fault; output = more }))
   by_stop stop (inr s) more own stood = by_memory s.1 (stood s.0)
 
   -- a command at work on the plant
@@ -186,16 +208,19 @@ module _ (words : List (List ℕ)) (plant : SourceUse) (out err : SinkUse) (resu
 
   -- the cause at the end of a course
   by_course : (end : Option Stop) (command : Command) (parts : FileParts) (c : Course) → command_in words ≡ Ok command →
-      SaysParts plant parts → IsWork command parts c → Stood c c.windows out → c.stop ≡ end →
-      Said (course_end end) err result → Cause result words plant out err
+      SaysParts plant parts → IsWork command parts c → Stood c c.windows sinks → c.stop ≡ end →
+      Said (course_end end) err result → Cause result words plant sinks err
   by_course None command parts c a says work stood e said =
-      subst (λ r. Cause r words plant out err) (sym said.1)
-      (record { at = at_work command parts c a says work; whole = e; output = stood.output }, said.0)
+      subst (λ r. Cause r words plant sinks err) (sym said.1)
+      (record { at = at_work command parts c a says work; whole = e; output = stood.output; trace = stood.trace }, said.0)
   by_course (Some stop) command parts c a says work stood e said =
       let stops = course-stops command parts c stop work.follows e in
-      let silent = stood.silent stops.text in
+      let silent : AreUnwritten sinks = record {
+        out = stood.silent stops.text;
+        trace = subst (λ t. TraceStood t c.windows sinks.trace) stops.untraced stood.trace;
+      } in
       let status_is : stop.status ≡ status.Refused = sym (ap (λ (s : Stop). s.status) stops.stop_is) ∙ stops.refused in
-      by_stop stop said (inl silent) (λ g. subst (λ s. Cause s words plant out err) (sym status_is) (record {
+      by_stop stop said (inl silent) (λ g. subst (λ s. Cause s words plant sinks err) (sym status_is) (record {
         command = command;
         fault = stops.fault;
         asked = a;
@@ -209,7 +234,7 @@ module _ (words : List (List ℕ)) (plant : SourceUse) (out err : SinkUse) (resu
 
   -- what is said where the plant is refused
   says_refusal : (own : Status) (command : Command) (fault : TopFault) → command_in words ≡ Ok command → IsRefused plant fault →
-      IsUnwritten out → status_of command fault ≡ own → WasGiven err (fault_line fault) → SaysStop own words plant out err
+      AreUnwritten sinks → status_of command fault ≡ own → WasGiven err (fault_line fault) → SaysStop own words plant sinks err
   says_refusal own command fault a r o s g = record {
     command = command;
     fault = fault;
@@ -223,24 +248,25 @@ module _ (words : List (List ℕ)) (plant : SourceUse) (out err : SinkUse) (resu
 
   -- the cause where the plant is refused
   by_refusal : (command : Command) (fault : TopFault) → command_in words ≡ Ok command → IsRefused plant fault →
-      IsUnwritten out → SaidStop (stop_by command fault) err result → Cause result words plant out err
+      AreUnwritten sinks → SaidStop (stop_by command fault) err result → Cause result words plant sinks err
   by_refusal command fault a r o said =
       by_stop (stop_by command fault) said (inl o) (λ g. elim (refusal_status command fault (kind-refused fault r.kind)) [
-        | inl s ↦ subst (λ t. Cause t words plant out err) (sym s) (says_refusal status.Refused command fault a r o s g)
-        | inr s ↦ subst (λ t. Cause t words plant out err) (sym s) (says_refusal status.No command fault a r o s g)
+        | inl s ↦ subst (λ t. Cause t words plant sinks err) (sym s) (says_refusal status.Refused command fault a r o s g)
+        | inr s ↦ subst (λ t. Cause t words plant sinks err) (sym s) (says_refusal status.No command fault a r o s g)
       ]) (λ none. inl o)
 
   -- the cause at each end of the work on a plant
   by_work : (command : Command) (parts : FileParts) (ending : Result (Unit {0}) End) → command_in words ≡ Ok command →
-      SaysParts plant parts → WorkEnded command parts out ending → Said ending err result →
-      Cause result words plant out err
+      SaysParts plant parts → WorkEnded command parts sinks ending → Said ending err result →
+      Cause result words plant sinks err
   by_work command parts ending a says (ended.through c work stood e) said =
       by_course c.stop command parts c a says work stood refl (subst (λ x. Said x err result) e said)
-  by_work command parts ending a says (ended.broken c work some broke e) said =
-      let front : WroteFront words plant out = record { at = at_work command parts c a says work; output = broke } in
-      by_stop (stop_by command top.WriteOut) (subst (λ x. Said x err result) e said) (inr (inr front))
-      (λ g. subst (λ s. Cause s words plant out err) (sym (write_status command)) (inl (record { front = front; line = g })))
-      (λ none. absurd (cc none))
+  by_work command parts ending a says (ended.broken c fault work some broke e) said =
+      let front : WroteFront fault words plant sinks = record { at = at_work command parts c a says work; broke = broke } in
+      by_stop (stop_by command fault) (subst (λ x. Said x err result) e said) (inr (inr (fault, front)))
+      (λ g. subst (λ s. Cause s words plant sinks err) (sym (broken_status command c sinks fault broke))
+      (inl (record { fault = fault; front = front; line = g })))
+      (λ none. absurd (broken_line c sinks fault broke none))
   by_work command parts ending a says (ended.early o e) said = by_memory (subst (λ x. Said x err result) e said) (inl o)
   by_work command parts ending a says (ended.within c k work stood less e) said =
       by_memory (subst (λ x. Said x err result) e said) (inr (record {
@@ -249,34 +275,35 @@ module _ (words : List (List ℕ)) (plant : SourceUse) (out err : SinkUse) (resu
         few = stood.few;
         fewer = less;
         output = stood.output;
+        trace = stood.trace;
       }))
 
   -- the cause at each end of a command
   by_command : (command : Command) (ending : Result (Unit {0}) End) → command_in words ≡ Ok command →
-      CommandEnded command plant out ending → Said ending err result → Cause result words plant out err
+      CommandEnded command plant sinks ending → Said ending err result → Cause result words plant sinks err
   by_command command ending a (ended.refused fault r o e) said =
       by_refusal command fault a r o (subst (λ x. Said x err result) e said)
   by_command command ending a (ended.failed rose o e) said =
       by_stop (stop_by command top.ReadPlant) (subst (λ x. Said x err result) e said) (inl o)
-      (λ g. subst (λ s. Cause s words plant out err) (sym (read_status command)) (record { fault = rose; line = g; silent = o }))
+      (λ g. subst (λ s. Cause s words plant sinks err) (sym (read_status command)) (record { fault = rose; line = g; silent = o }))
       (λ none. inl o)
   by_command command ending a (ended.starved o e) said = by_memory (subst (λ x. Said x err result) e said) (inl o)
   by_command command ending a (ended.worked parts says w) said = by_work command parts ending a says w said
 
   -- the cause of what is answered
-  cause : (ending : Result (Unit {0}) End) → Ended words plant out ending → Said ending err result →
-      Cause result words plant out err
+  cause : (ending : Result (Unit {0}) End) → Ended words plant sinks ending → Said ending err result →
+      Cause result words plant sinks err
   cause ending (misread at w r o e) said =
       by_stop (record { fault = top.Words at; status = status.Words }) (subst (λ x. Said x err result) e said) (inl o)
       (λ g. record { at = at; refused = w; line = g; unread = r; silent = o }) (λ none. inl o)
   cause ending (asked command a e) said = by_command command ending a e said
 
-  pub caused : (own : Status) (ending : Result (Unit {0}) End) → Ended words plant out ending → Said ending err result →
-      result ≡ own → Cause own words plant out err
-  caused own ending e said d = subst (λ s. Cause s words plant out err) d (cause ending e said)
+  pub caused : (own : Status) (ending : Result (Unit {0}) End) → Ended words plant sinks ending → Said ending err result →
+      result ≡ own → Cause own words plant sinks err
+  caused own ending e said d = subst (λ s. Cause s words plant sinks err) d (cause ending e said)
 
   -- refused words have their status
-  pub words-only : (at : ℕ) (ending : Result (Unit {0}) End) → Ended words plant out ending →
+  pub words-only : (at : ℕ) (ending : Result (Unit {0}) End) → Ended words plant sinks ending →
       Said ending err result → command_in words ≡ Err at → AnswersOr status.Words err result
   words-only at ending (misread k w r o e) said d =
       own_or (record { fault = top.Words k; status = status.Words }) err result (subst (λ x. Said x err result) e said)
@@ -295,12 +322,12 @@ module _ (words : List (List ℕ)) (plant : SourceUse) (out err : SinkUse) (resu
 
     -- a stop has its status, but where the source failed
     at_stop_of_work : (stop : Stop) (parts : FileParts) (ending : Result (Unit {0}) End) → SaysParts plant parts →
-        WorkEnded command parts out ending → Said ending err result → IsEndOn command bytes (Some stop) →
+        WorkEnded command parts sinks ending → Said ending err result → IsEndOn command bytes (Some stop) →
         AnswersOr stop.status err result
     at_stop_of_work stop parts ending says (ended.through c work stood e) said ends =
         let same = end-unique command bytes c.stop (Some stop) (course_end_on parts c says work) ends in
         own_or stop err result (subst (λ x. Said x err result) (e ∙ ap course_end same) said)
-    at_stop_of_work stop parts ending says (ended.broken c work some broke e) said ends =
+    at_stop_of_work stop parts ending says (ended.broken c fault work some broke e) said ends =
         let same = end-unique command bytes c.stop (Some stop) (course_end_on parts c says work) ends in
         absurd (some (course-stops command parts c stop work.follows same).text)
     at_stop_of_work stop parts ending says (ended.early o e) said ends =
@@ -308,7 +335,7 @@ module _ (words : List (List ℕ)) (plant : SourceUse) (out err : SinkUse) (resu
     at_stop_of_work stop parts ending says (ended.within c k work stood less e) said ends =
         memory_or stop.status err result (subst (λ x. Said x err result) e said)
 
-    at_stop : (stop : Stop) (ending : Result (Unit {0}) End) → CommandEnded command plant out ending →
+    at_stop : (stop : Stop) (ending : Result (Unit {0}) End) → CommandEnded command plant sinks ending →
         Said ending err result → IsEndOn command bytes (Some stop) → AnswersUnlessRead stop.status plant err result
     at_stop stop ending (ended.refused fault r o e) said ends =
         let same : stop_by command fault ≡ stop =
@@ -323,39 +350,39 @@ module _ (words : List (List ℕ)) (plant : SourceUse) (out err : SinkUse) (resu
 
     -- a text on which the command ends with no stop is done, where no device fails and memory is there
     at_end_of_work : (parts : FileParts) (ending : Result (Unit {0}) End) → SaysParts plant parts →
-        WorkEnded command parts out ending → Said ending err result → IsEndOn command bytes None →
-        ¬ Rose out.before out.now → ¬ Rose err.before err.now →
+        WorkEnded command parts sinks ending → Said ending err result → IsEndOn command bytes None →
+        ¬ Rose sinks.out.before sinks.out.now → ¬ Rose sinks.trace.before sinks.trace.now → ¬ Rose err.before err.now →
         (result ≡ status.Done) ⊎ (result ≡ status.NoMemory)
-    at_end_of_work parts ending says (ended.through c work stood e) said ends o r =
+    at_end_of_work parts ending says (ended.through c work stood e) said ends o t r =
         let same = end-unique command bytes c.stop None (course_end_on parts c says work) ends in
         let s : IsUnwritten err × (result ≡ status.Done) =
         subst (λ x. Said x err result) (e ∙ ap course_end same) said in
         inl s.1
-    at_end_of_work parts ending says (ended.broken c work some broke e) said ends o r = absurd (o broke.fault)
-    at_end_of_work parts ending says (ended.early w e) said ends o r =
+    at_end_of_work parts ending says (ended.broken c fault work some broke e) said ends o t r = absurd (broken_rose c sinks fault broke o t)
+    at_end_of_work parts ending says (ended.early w e) said ends o t r =
         memory_alone err result (subst (λ x. Said x err result) e said) r
-    at_end_of_work parts ending says (ended.within c k work stood less e) said ends o r =
+    at_end_of_work parts ending says (ended.within c k work stood less e) said ends o t r =
         memory_alone err result (subst (λ x. Said x err result) e said) r
 
-    at_whole : (ending : Result (Unit {0}) End) → CommandEnded command plant out ending →
+    at_whole : (ending : Result (Unit {0}) End) → CommandEnded command plant sinks ending →
         Said ending err result → IsEndOn command bytes None →
-        ¬ Rose plant.before plant.now → ¬ Rose out.before out.now → ¬ Rose err.before err.now →
+        ¬ Rose plant.before plant.now → ¬ Rose sinks.out.before sinks.out.now → ¬ Rose sinks.trace.before sinks.trace.now → ¬ Rose err.before err.now →
         (result ≡ status.Done) ⊎ (result ≡ status.NoMemory)
-    at_whole ending (ended.refused fault d w e) said ends p o r =
+    at_whole ending (ended.refused fault d w e) said ends p o t r =
         absurd (cc (end-unique command bytes (Some (stop_by command fault)) None (refusal_on fault d) ends))
-    at_whole ending (ended.failed rose w e) said ends p o r = absurd (p rose)
-    at_whole ending (ended.starved w e) said ends p o r =
+    at_whole ending (ended.failed rose w e) said ends p o t r = absurd (p rose)
+    at_whole ending (ended.starved w e) said ends p o t r =
         memory_alone err result (subst (λ x. Said x err result) e said) r
-    at_whole ending (ended.worked parts says w) said ends p o r = at_end_of_work parts ending says w said ends o r
+    at_whole ending (ended.worked parts says w) said ends p o t r = at_end_of_work parts ending says w said ends o t r
 
   -- the command that ended is the one that was asked for
   this_command : (command k : Command) (ending : Result (Unit {0}) End) → command_in words ≡ Ok command →
-      command_in words ≡ Ok k → CommandEnded k plant out ending → CommandEnded command plant out ending
+      command_in words ≡ Ok k → CommandEnded k plant sinks ending → CommandEnded command plant sinks ending
   this_command command k ending a b e =
-      let same : k ≡ command = cc (a, b) in subst (λ c. CommandEnded c plant out ending) same e
+      let same : k ≡ command = cc (a, b) in subst (λ c. CommandEnded c plant sinks ending) same e
 
   pub stopped-only : (command : Command) (bytes : List ℕ) (stop : Stop) (ending : Result (Unit {0}) End) →
-      Ended words plant out ending → Said ending err result → command_in words ≡ Ok command →
+      Ended words plant sinks ending → Said ending err result → command_in words ≡ Ok command →
       plant.text ≡ Some bytes → IsEndOn command bytes (Some stop) →
       AnswersUnlessRead stop.status plant err result
   stopped-only command bytes stop ending (misread at w r o e) said a t ends = absurd (cc (a, w))
@@ -363,13 +390,13 @@ module _ (words : List (List ℕ)) (plant : SourceUse) (out err : SinkUse) (resu
       at_stop command bytes t stop ending (this_command command k ending a b e) said ends
 
   pub complete : (command : Command) (bytes : List ℕ) (ending : Result (Unit {0}) End) →
-      Ended words plant out ending → Said ending err result → command_in words ≡ Ok command →
+      Ended words plant sinks ending → Said ending err result → command_in words ≡ Ok command →
       plant.text ≡ Some bytes → IsEndOn command bytes None →
-      ¬ Rose plant.before plant.now → ¬ Rose out.before out.now → ¬ Rose err.before err.now →
+      ¬ Rose plant.before plant.now → ¬ Rose sinks.out.before sinks.out.now → ¬ Rose sinks.trace.before sinks.trace.now → ¬ Rose err.before err.now →
       (result ≡ status.Done) ⊎ (result ≡ status.NoMemory)
-  complete command bytes ending (misread at w r o e) said a t ends p q r' = absurd (cc (a, w))
-  complete command bytes ending (asked k b e) said a t ends p q r =
-      at_whole command bytes t ending (this_command command k ending a b e) said ends p q r
+  complete command bytes ending (misread at w r still e) said a told ends p o t q = absurd (cc (a, w))
+  complete command bytes ending (asked k b e) said a told ends p o t r =
+      at_whole command bytes told ending (this_command command k ending a b e) said ends p o t r
 
 -- a command has an end on a text that is judged
 pub end-exists : (command : Command) (bytes : List ℕ) (judgement : Judgement) → IsJudged bytes judgement →

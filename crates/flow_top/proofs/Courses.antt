@@ -8,15 +8,17 @@ use Rattle.plant.specs.Sound.{IsPlant}
 use Rattle.tables.specs.Output.{header, rank_header, rows_of}
 use Rattle.flow_edge.specs.declared.status.Status.TheVariants as status
 use Rattle.flow_top.specs.declared.fault.Stop.{Stop}
-use Rattle.flow_top.specs.declared.fault.TopFault.{TopFault}
-use Rattle.flow_top.specs.declared.fault.TopFault.TheVariants as top
+use Rattle.report.specs.declared.fault.TopFault.{TopFault}
+use Rattle.report.specs.declared.fault.TopFault.TheVariants as top
 use Rattle.flow_top.specs.Faults.{own_status, status_of, stop_by}
 use Rattle.flow_top.specs.declared.words.Command.{Command}
 use Rattle.flow_top.specs.declared.words.Command.TheVariants.{Run, Check}
 use Rattle.flow_top.specs.Course.{Course, written, text_of}
 use Rattle.flow_top.specs.Courses.{IsCourse, IsWork}
-use Rattle.flow_top.specs.RunCourse.{labels_of, all_rows, window_rows, ticks_in, asks_for_widths, not_built, RunsUnless, RunsWhole, StopsAtOnce, IsWindowCount}
-use Rattle.flow_top.specs.CheckCourse.{rank_rows, IsCheckCourse}
+use Rattle.flow_top.specs.RunCourse.{all_rows, window_rows, traced_in, ticks_in, asks_for_widths, not_built, RunsUnless, RunsWhole, StopsAtOnce, IsWindowCount}
+use Rattle.flow_top.specs.CheckCourse.{IsCheckCourse}
+use Rattle.report.specs.Output.{labels_of}
+use Rattle.report.specs.Ranks.{rank_rows}
 
 -- the course of a run that is not built yet
 abbrev pub stopped_course : List ℕ → Course
@@ -24,20 +26,28 @@ stopped_course place = record {
   header = [];
   windows = 0;
   rows = λ w. [];
+  trace = None;
   stop = Some (stop_by Run (top.NotBuilt place));
 }
 
 -- the course of a run in one window, and that of a check
 abbrev pub run_course : FileParts → Course
-run_course parts = record { header = header; windows = 1; rows = λ w. window_rows parts w; stop = None }
+run_course parts = record {
+  header = header;
+  windows = 1;
+  rows = λ w. window_rows parts w;
+  trace = Some (traced_in parts);
+  stop = None;
+}
 
 abbrev pub check_course : FileParts → Course
-check_course parts = record { header = rank_header; windows = 1; rows = λ w. rank_rows parts; stop = None }
+check_course parts =
+    record { header = rank_header; windows = 1; rows = λ w. rank_rows parts; trace = None; stop = None }
 
 pub stopped-work : (parts : FileParts) (place : List ℕ) → IsPlant parts → not_built parts ≡ Some place →
     IsWork Run parts (stopped_course place)
 stopped-work parts place plant e =
-    let stops : StopsAtOnce place (stopped_course place) = record { header = refl; windows = refl; stop = refl } in
+    let stops : StopsAtOnce place (stopped_course place) = record { header = refl; windows = refl; trace = refl; stop = refl } in
     record { plant = plant; follows = subst (λ n. RunsUnless n parts (stopped_course place)) (sym e) stops }
 
 -- what is built runs in one window
@@ -48,7 +58,7 @@ in_one_window false place rest e = refl
 not_less : (a b : ℕ) → nat_lt a b ≡ false → b ≤ a
 not_less a b e = grind (arith, e)
 
-one-window : (parts : FileParts) → not_built parts ≡ None → parts.ticks ≤ parts.window
+pub one-window : (parts : FileParts) → not_built parts ≡ None → parts.ticks ≤ parts.window
 unfolding not_built
 one-window parts e = not_less parts.window parts.ticks (in_one_window (nat_lt parts.window parts.ticks) (codes "run.ticks")
     (if asks_for_widths parts.width then Some (codes "width") else None) e)
@@ -58,7 +68,7 @@ count-one ticks window some zero h = absurd (omega (arith, some, h))
 count-one ticks window some (suc fewer) h = omega arith
 
 -- the rows of the one window are all
-first-window : (parts : FileParts) → parts.ticks ≤ parts.window → window_rows parts 0 ≡ all_rows parts
+pub first-window : (parts : FileParts) → parts.ticks ≤ parts.window → window_rows parts 0 ≡ all_rows parts
 first-window parts h =
     ap (λ first. rows_of (labels_of parts) (streams_of_run parts) first (ticks_in parts 0)) (omega arith)
     ∙ ap (rows_of (labels_of parts) (streams_of_run parts) 0) (omega arith)
@@ -70,6 +80,7 @@ run-work parts plant e =
       header = refl;
       windows = record { enough = omega arith; least = count-one parts.ticks parts.window plant.ranges.ticks.0 };
       rows = λ w h. refl;
+      trace = refl;
       stop = refl;
     } in
     record { plant = plant; follows = subst (λ n. RunsUnless n parts (run_course parts)) (sym e) runs }
@@ -78,7 +89,7 @@ pub run-text : (parts : FileParts) → not_built parts ≡ None → text_of (run
 run-text parts e = ap (λ rows. header ++ rows) (first-window parts (one-window parts e))
 
 pub check-work : (parts : FileParts) → IsPlant parts → IsWork Check parts (check_course parts)
-check-work parts plant = record { plant = plant; follows = record { header = refl; windows = refl; rows = refl; stop = refl } }
+check-work parts plant = record { plant = plant; follows = record { header = refl; windows = refl; rows = refl; trace = refl; stop = refl } }
 
 -- a header is not empty
 pub run-writes : (rows : List ℕ) → header ++ rows ≢ []
@@ -115,6 +126,7 @@ unbuilt_status place = refl
 -- today a course that stops is one of `run`, writes nothing, and its stop is a refusal
 pub record WritesNothing (command : Command) (course : Course) (stop : Stop) : Type 0 where
   pub text : text_of course ≡ []
+  pub untraced : course.trace ≡ None
   pub fault : TopFault
   pub stop_is : stop_by command fault ≡ stop
   pub refused : status_of command fault ≡ status.Refused
@@ -124,6 +136,7 @@ run-stops : (place : Option (List ℕ)) (parts : FileParts) (course : Course) (s
 run-stops None parts course stop r e = absurd (cc (r.stop, e))
 run-stops (Some place) parts course stop r e = record {
   text = ap (written course) r.windows ∙ r.header;
+  untraced = r.trace;
   fault = top.NotBuilt place;
   stop_is = cc (r.stop, e);
   refused = unbuilt_status place;
@@ -156,6 +169,7 @@ written-agree a b header n rows (suc k) h =
 pub record Agree (a b : Course) : Type 0 where
   pub windows : a.windows ≡ b.windows
   pub text : (k : ℕ) → k ≤ a.windows → written a k ≡ written b k
+  pub trace : a.trace ≡ b.trace
   pub stop : a.stop ≡ b.stop
 
 no-less : (a b : ℕ) → a ≤ b → b ≤ a → a ≡ b
@@ -175,12 +189,14 @@ run-agrees None parts a b r s =
       windows = same;
       text = written-agree a b (r.header ∙ sym s.header) a.windows
           (λ w h. r.rows w h ∙ sym (s.rows w (below w a.windows b.windows h same)));
+      trace = r.trace ∙ sym s.trace;
       stop = r.stop ∙ sym s.stop;
     }
 run-agrees (Some place) parts a b r s =
     record {
       windows = r.windows ∙ sym s.windows;
       text = written-agree a b (r.header ∙ sym s.header) a.windows (λ w h. absurd (none-below w a.windows h r.windows));
+      trace = r.trace ∙ sym s.trace;
       stop = r.stop ∙ sym s.stop;
     }
 
@@ -193,6 +209,7 @@ check-agrees parts a b r s =
       windows = r.windows ∙ sym s.windows;
       text = written-agree a b (r.header ∙ sym s.header) a.windows
           (λ w h. ap a.rows (only-zero w a.windows h r.windows) ∙ r.rows ∙ sym s.rows ∙ sym (ap b.rows (only-zero w a.windows h r.windows)));
+      trace = r.trace ∙ sym s.trace;
       stop = r.stop ∙ sym s.stop;
     }
 

@@ -11,7 +11,7 @@ use Rattle.plant_checks.specs.declared.fault.PlantFault.{PlantFault}
 use Rattle.plant.proofs.PlantLaws.{verdict-unique}
 use Rattle.flow_file.specs.Plant.{parts_in}
 use Rattle.flow_file.specs.declared.fault.TextFault.{TextFault}
-use Rattle.flow_top.specs.declared.fault.TopFault.TheVariants as top
+use Rattle.report.specs.declared.fault.TopFault.TheVariants as top
 use Rattle.flow_top.specs.Faults.{fault_of_text, fault_of_plant}
 use Rattle.flow_top.specs.Judged.{Judgement, most_bytes, IsJudged, too_long, unreadable, unbuilt, built}
 

@@ -2,8 +2,12 @@ pub mod Judging
 pub mod Readings
 pub mod Writes
 pub mod Courses
+pub mod Options
+pub mod Pairs
 pub mod Work
+pub mod RunWork
 pub mod Causes
 pub mod PlantRows
+pub mod Relaxed
 pub mod Channels
 pub mod RunRows

@@ -1,4 +1,4 @@
--- One tick more of a plant's rows.
+-- The rows of some ticks, from the bands at these.
 use Rattle.std.proofs.Common.{◌≡◌, ℕ, zero, suc, ◌+◌, ◌<◌, List, [], ◌∷◌, ◌++◌, length, refl, sym, ap, ◌∙◌, append_assoc}
 use Rattle.std.proofs.Common.{append-nil, add-one, flat_map, arith}
 use Rattle.std.specs.List.{range_with_len}
@@ -9,7 +9,7 @@ use Rattle.plant_streams.specs.declared.streams.Stream.{Stream}
 use Rattle.plant_streams.specs.Streams.{streams_of}
 use Rattle.plant.specs.Rows.{streams_of_run}
 use Rattle.tables.specs.Output.{Label, rows_of, rows_from, stream_rows, tick_rows}
-use Rattle.flow_top.specs.RunCourse.{labels_of}
+use Rattle.report.specs.Output.{labels_of}
 
 abbrev pub label_of : Stream → Label
 label_of stream = record { name = stream.name; signal = stream.signal }
@@ -32,17 +32,14 @@ rows-ticks labels bands first (suc n) =
     ∙ sym (append_assoc (tick_rows labels bands first) (flat_map (tick_rows labels bands) (range_with_len (first + 1) n)) (tick_rows labels bands (first + 1 + n)))
     ∙ ap (λ t. (tick_rows labels bands first ++ flat_map (tick_rows labels bands) (range_with_len (first + 1) n)) ++ tick_rows labels bands t) (omega arith)
 
--- the rows of a tick of the run were added to those of the ticks before
-pub rows-more : (parts : FileParts) (tick : ℕ) (bands : ℕ → List Interval) (before after : List ℕ) →
-    ((s : ℕ) → s < length (streams_of parts) → bands s ≡ streams_of_run parts tick s) →
-    before ≡ rows_of (labels_of parts) (streams_of_run parts) 0 tick →
-    after ≡ before ++ rows_from tick bands 0 (labels_of parts) →
-    after ≡ rows_of (labels_of parts) (streams_of_run parts) 0 (tick + 1)
-rows-more parts tick bands before after same rows added =
-    let counted : length (labels_of parts) ≡ length (streams_of parts) = length-map (streams_of parts) label_of in
-    added
-    ∙ ap (λ text. before ++ text) (rows_from-same tick bands (streams_of_run parts tick) 0 (labels_of parts) (λ s h. same s (omega arith)))
-    ∙ ap (λ text. text ++ tick_rows (labels_of parts) (streams_of_run parts) tick) rows
-    ∙ ap (λ t. rows_of (labels_of parts) (streams_of_run parts) 0 tick ++ tick_rows (labels_of parts) (streams_of_run parts) t) (omega arith)
-    ∙ sym (rows-ticks (labels_of parts) (streams_of_run parts) 0 tick)
-    ∙ ap (rows_of (labels_of parts) (streams_of_run parts) 0) (sym (add-one tick))
+-- windows with the same bands have the same rows
+pub rows-same : (labels : List Label) (a b : ℕ → ℕ → List Interval) (first n : ℕ) →
+    ((t s : ℕ) → t < n → s < length labels → a (first + t) s ≡ b (first + t) s) →
+    rows_of labels a first n ≡ rows_of labels b first n
+rows-same labels a b first zero same = refl
+rows-same labels a b first (suc n) same =
+    rows-ticks labels a first n
+    ∙ ap (λ text. text ++ tick_rows labels a (first + n)) (rows-same labels a b first n (λ t s h l. same t s (omega arith) l))
+    ∙ ap (λ text. rows_of labels b first n ++ text)
+    (rows_from-same (first + n) (a (first + n)) (b (first + n)) 0 labels (λ s l. same n s (omega arith) (omega arith)))
+    ∙ sym (rows-ticks labels b first n)

@@ -4,7 +4,7 @@ use Rattle.std.proofs.Common.{Result, Ok, Err, sym, ap, subst, ◌∙◌, if◌t
 use Rattle.std.proofs.lemmas.List.{take_all}
 use Rattle.std.proofs.lemmas.Bool.{false≢true}
 use Rattle.flow_edge.specs.ReadText.{ReadText, ReadsUp}
-use Rattle.flow_top.specs.declared.fault.TopFault.TheVariants as top
+use Rattle.report.specs.declared.fault.TopFault.TheVariants as top
 use Rattle.flow_top.specs.Judged.{Judgement, IsJudged, most_bytes}
 use Rattle.flow_top.proofs.Judging.{long-judged}
 

@@ -6,7 +6,9 @@ use Rattle.parts.specs.Parts.{FileParts}
 use Rattle.plant.specs.Rows.{streams_of_run}
 use Rattle.tables.specs.Output.{Label, header, rows_of, tick_rows}
 use Rattle.flow_top.specs.Course.{Course, written, text_of}
-use Rattle.flow_top.specs.RunCourse.{labels_of, all_rows, ticks_in, window_rows, RunsWhole, RunsUnless, IsRunCourse, not_built}
+use Rattle.report.specs.Output.{labels_of}
+use Rattle.plant.specs.Sound.{IsPlant}
+use Rattle.flow_top.specs.RunCourse.{all_rows, first_tick, ticks_in, window_rows, RunsWhole, RunsUnless, IsRunCourse, not_built}
 
 -- the rows of some ticks and of those after them
 rows-joined : (labels : List Label) (bands : ℕ → ℕ → List Interval) (first n m : ℕ) →
@@ -98,3 +100,21 @@ pub run-windows : (parts : FileParts) (course : Course) → IsRunCourse parts co
     k ≤ course.windows →
     written course k ≡ header ++ rows_of (labels_of parts) (streams_of_run parts) 0 (min (k * parts.window) parts.ticks)
 run-windows parts course is e k h = unless-windows (not_built parts) parts course is e k h
+
+-- a window that is there has ticks of the plant's, few of them
+inside_of : (first window ticks : ℕ) → 1 ≤ window → window ≤ 64 → first < ticks →
+    (1 ≤ min window (ticks - first)) × (min window (ticks - first) ≤ 64) × (first + min window (ticks - first) ≤ ticks)
+inside_of first window ticks some few begun = (omega arith, omega arith, omega arith)
+
+unless-inside : (place : Option (List ℕ)) (parts : FileParts) (course : Course) → IsPlant parts → RunsUnless place parts course →
+    course.stop ≡ None → (w : ℕ) → w < course.windows →
+    (1 ≤ ticks_in parts w) × (ticks_in parts w ≤ 64) × (first_tick parts w + ticks_in parts w ≤ parts.ticks)
+unless-inside None parts course plant runs e w h =
+    inside_of (first_tick parts w) parts.window parts.ticks plant.ranges.window.0 plant.ranges.window.1
+    (began parts course runs w (omega (arith, h)))
+unless-inside (Some place) parts course plant stops e w h = absurd (cc (stops.stop, e))
+
+pub window-inside : (parts : FileParts) (course : Course) → IsPlant parts → IsRunCourse parts course → course.stop ≡ None →
+    (w : ℕ) → w < course.windows →
+    (1 ≤ ticks_in parts w) × (ticks_in parts w ≤ 64) × (first_tick parts w + ticks_in parts w ≤ parts.ticks)
+window-inside parts course plant is e w h = unless-inside (not_built parts) parts course plant is e w h

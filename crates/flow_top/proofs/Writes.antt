@@ -3,6 +3,7 @@ use Rattle.std.proofs.Common.{◌≡◌, ◌≤◌, ℕ, List, [], ◌++◌, Opt
 use Rattle.std.proofs.Common.{arith}
 use Rattle.flow_edge.specs.Faults.{Rose}
 use Rattle.flow_edge.specs.Sink.{Gives, GivesFront}
+use Rattle.flow_top.specs.Uses.{SinkUse, IsUnwritten}
 
 -- a first part of a text is one of a longer text
 pub front-longer : (had has : Option (List ℕ)) (text rest : List ℕ) → GivesFront had has text → GivesFront had has (text ++ rest)
@@ -50,3 +51,19 @@ nothing-given had = record {
   told = elim had as (λ o. IfSome o (λ old. o ≡ Some (old ++ []))) [ None ↦ tt | Some old ↦ ap Some (sym (append-nil old)) ];
   untold = λ e. e;
 }
+
+-- a whole text is a first part of itself, and nothing is one of any
+pub front-whole : (had has : Option (List ℕ)) (text : List ℕ) → Gives had has text → GivesFront had has text
+front-whole had has text g = record {
+  told = elim had as (λ o. IfSome o (λ old. has ≡ Some (old ++ text)) →
+      IfSome o (λ old. (front : List ℕ) × (back : List ℕ) × (text ≡ front ++ back) × (has ≡ Some (old ++ front)))) [
+        | None ↦ λ h. tt
+        | Some old ↦ λ h. (text, [], sym (append-nil text), h)
+      ] g.told;
+  untold = g.untold;
+}
+
+pub front-none : (sink : SinkUse) (text : List ℕ) → IsUnwritten sink → GivesFront sink.had sink.has text
+front-none sink text still =
+    subst (λ has. GivesFront sink.had has text) (sym still.text)
+    (front-longer sink.had sink.had [] text (front-whole sink.had sink.had [] (nothing-given sink.had)))

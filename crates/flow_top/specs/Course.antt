@@ -1,12 +1,21 @@
--- A course: what a command does on a plant. It writes a header and then the rows of one window after another, up to its stop.
+-- A course: what a command does on a plant. It writes a header and then the rows of one window after another, up to its stop, and
+-- beside them, where it relaxes, a trace of the steps.
 use Rattle.std.specs.Prelude.{ℕ, zero, suc, ◌++◌, List, Option}
+use Rattle.relaxation.specs.Window.{Window}
 use Rattle.flow_top.specs.declared.fault.Stop.{Stop}
+
+-- what a trace is of: the names of the streams, and each window by its number from 0
+pub record Traced : Type 0 where
+  pub names : List (List ℕ)
+  pub window : ℕ → Window
 
 pub record Course : Type 0 where
   pub header : List ℕ
   -- how many windows are written, and the rows of each by its number from 0
   pub windows : ℕ
   pub rows : ℕ → List ℕ
+  -- none, where nothing goes to the trace
+  pub trace : Option Traced
   -- the fault that ends it after these windows, with its status; or none, where the windows are all
   pub stop : Option Stop
 

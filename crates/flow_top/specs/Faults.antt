@@ -8,8 +8,8 @@ use Rattle.plant_checks.specs.declared.fault.PlantFault.{PlantFault}
 use Rattle.plant_checks.specs.declared.fault.PlantFault.TheVariants as plant
 use Rattle.flow_top.specs.declared.words.Command.{Command}
 use Rattle.flow_top.specs.declared.words.Command.TheVariants.{Check}
-use Rattle.flow_top.specs.declared.fault.TopFault.{TopFault}
-use Rattle.flow_top.specs.declared.fault.TopFault.TheVariants as top
+use Rattle.report.specs.declared.fault.TopFault.{TopFault}
+use Rattle.report.specs.declared.fault.TopFault.TheVariants as top
 use Rattle.flow_top.specs.declared.fault.Stop.{Stop}
 
 -- the refusal of a text, and of the parts that it says, among all faults
@@ -68,6 +68,7 @@ own_status (top.TooDeep unit) = status.Refused
 own_status (top.NotBuilt place) = status.Refused
 own_status top.ReadPlant = status.ReadFault
 own_status top.WriteOut = status.WriteFault
+own_status top.WriteTrace = status.WriteFault
 
 -- the status that a command gives a fault: `check` answers No where units have no ranks, or one above the greatest
 unfoldable pub status_of : Command → TopFault → Status

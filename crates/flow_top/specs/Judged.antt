@@ -6,8 +6,8 @@ use Rattle.plant.specs.Sound.{IsPlant}
 use Rattle.plant.specs.Verdict.{IsVerdict}
 use Rattle.flow_file.specs.Plant.{parts_in}
 use Rattle.flow_file.specs.declared.fault.TextFault.{TextFault}
-use Rattle.flow_top.specs.declared.fault.TopFault.{TopFault}
-use Rattle.flow_top.specs.declared.fault.TopFault.TheVariants as top
+use Rattle.report.specs.declared.fault.TopFault.{TopFault}
+use Rattle.report.specs.declared.fault.TopFault.TheVariants as top
 use Rattle.flow_top.specs.Faults.{fault_of_text, fault_of_plant}
 
 -- the most bytes that a plant text has

@@ -6,7 +6,6 @@ pub mod RunCourse
 pub mod CheckCourse
 pub mod Courses
 pub mod Uses
-pub mod Lines
 pub mod Ended
 pub mod Stands
 pub mod Causes

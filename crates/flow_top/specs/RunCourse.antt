@@ -1,19 +1,18 @@
--- The course of `run`: the rows of the interval run of a plant, window by window.
+-- The course of `run`: the rows of the interval run of a plant, window by window, with a trace of the steps that settled each.
 use Rattle.std.specs.Prelude.{◌≡◌, ℕ, ◌*◌, ◌-◌, ◌<◌, ◌≤◌, ◌||◌, nat_lt, min, Bool, List, [], map, codes, Option, Some, None, is_some}
 use Rattle.std.specs.Prelude.{if◌then◌else◌}
 use Rattle.parts.specs.Parts.{FileParts}
 use Rattle.parts.specs.declared.parts.Widths.{Widths}
-use Rattle.plant_streams.specs.Streams.{streams_of}
 use Rattle.plant.specs.Rows.{streams_of_run}
-use Rattle.tables.specs.Output.{Label, header, rows_of}
+use Rattle.tables.specs.Output.{header, rows_of}
+use Rattle.report.specs.Output.{labels_of}
+use Rattle.report.specs.Trace.{names_of}
+use Rattle.renewal.specs.Plan.{window_of}
+use Rattle.feeds.specs.Given.{run_plan}
 use Rattle.flow_top.specs.declared.words.Command.TheVariants.{Run}
-use Rattle.flow_top.specs.declared.fault.TopFault.TheVariants.{NotBuilt}
+use Rattle.report.specs.declared.fault.TopFault.TheVariants.{NotBuilt}
 use Rattle.flow_top.specs.Faults.{stop_by}
-use Rattle.flow_top.specs.Course.{Course}
-
--- the names under which the streams are printed
-abbrev pub labels_of : FileParts → List Label
-labels_of parts = map (λ stream. record { name = stream.name; signal = stream.signal }) (streams_of parts)
+use Rattle.flow_top.specs.Course.{Traced, Course}
 
 -- a window begins where those before it end, each as long as the file says; the last has what is left of the run's ticks
 abbrev pub first_tick : FileParts → ℕ → ℕ
@@ -25,6 +24,13 @@ ticks_in parts w = min parts.window (parts.ticks - first_tick parts w)
 -- the rows of a window: those of its ticks of the interval run
 abbrev pub window_rows : FileParts → ℕ → List ℕ
 window_rows parts w = rows_of (labels_of parts) (streams_of_run parts) (first_tick parts w) (ticks_in parts w)
+
+-- the trace is of these windows, each with the states of the interval run carried into it
+abbrev pub traced_in : FileParts → Traced
+traced_in parts = record {
+  names = names_of parts;
+  window = λ w. window_of (run_plan parts (first_tick parts w) (ticks_in parts w));
+}
 
 -- the rows of every tick
 abbrev pub all_rows : FileParts → List ℕ
@@ -39,6 +45,7 @@ pub record RunsWhole (parts : FileParts) (course : Course) : Type 0 where
   pub header : course.header ≡ header
   pub windows : IsWindowCount parts course.windows
   pub rows : (w : ℕ) → w < course.windows → course.rows w ≡ window_rows parts w
+  pub trace : course.trace ≡ Some (traced_in parts)
   pub stop : course.stop ≡ None
 
 -- a width is asked for
@@ -56,6 +63,7 @@ not_built parts =
 pub record StopsAtOnce (place : List ℕ) (course : Course) : Type 0 where
   pub header : course.header ≡ []
   pub windows : course.windows ≡ 0
+  pub trace : course.trace ≡ None
   pub stop : course.stop ≡ Some (stop_by Run (NotBuilt place))
 
 abbrev pub RunsUnless : Option (List ℕ) → FileParts → Course → Type 0

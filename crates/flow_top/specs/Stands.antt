@@ -7,7 +7,7 @@ use Rattle.flow_top.specs.declared.fault.End.{End}
 use Rattle.flow_top.specs.declared.fault.End.TheVariants.{Stopped, NoMemory}
 use Rattle.flow_top.specs.Uses.{SinkUse, Uses, IsUntouched, IsUnwritten, WasGiven, Broke}
 use Rattle.flow_top.specs.Ended.{Ended}
-use Rattle.flow_top.specs.Lines.{fault_line, constant_line, memory_line}
+use Rattle.report.specs.Lines.{fault_line, constant_line, memory_line}
 
 -- the line was written, and the status is its own; or writing it failed, and the status is that of a write fault
 abbrev pub SaidLine : SinkUse → List ℕ → Status → Status → Type 0
@@ -28,11 +28,10 @@ Said (Ok done) err result = IsUnwritten err × (result ≡ status.Done)
 Said (Err NoMemory) err result = SaidMemory err result
 Said (Err (Stopped stop)) err result = SaidStop stop err result
 
--- How the work ended, what then stands in the plant source and the output, and what was said of it. The source of records
--- and the trace are untouched.
+-- How the work ended, what then stands in the plant source, the output and the trace, and what was said of it. The source of
+-- records is untouched.
 pub record Stands (words : List (List ℕ)) (uses : Uses) (result : Status) : Type 0 where
   pub ending : Result (Unit {0}) End
-  pub ended : Ended words uses.plant uses.out ending
+  pub ended : Ended words uses.plant uses.sinks ending
   pub said : Said ending uses.err result
   pub extra : IsUntouched uses.extra
-  pub trace : IsUnwritten uses.trace

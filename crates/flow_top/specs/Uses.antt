@@ -24,12 +24,23 @@ source_use left faults old new = record { text = left old; left = left new; befo
 abbrev pub sink_use : {S : Type 0} → (S → Option (List ℕ)) → (S → ℕ) → S → S → SinkUse
 sink_use given faults old new = record { had = given old; has = given new; before = faults old; now = faults new }
 
--- the five devices: the plant text, the feed records, the output, the trace and the error lines
+-- the two sinks that a command writes to: the output and the trace
+pub record Sinks : Type 0 where
+  pub out : SinkUse
+  pub trace : SinkUse
+
+abbrev pub sinks_use : {O T : Type 0} → (O → Option (List ℕ)) → (O → ℕ) → O → O →
+    (T → Option (List ℕ)) → (T → ℕ) → T → T → Sinks
+sinks_use given faults old new given_trace faults_trace old_trace new_trace = record {
+  out = sink_use given faults old new;
+  trace = sink_use given_trace faults_trace old_trace new_trace;
+}
+
+-- the five devices: the plant text, the feed records, the output and the trace, and the error lines
 pub record Uses : Type 0 where
   pub plant : SourceUse
   pub extra : SourceUse
-  pub out : SinkUse
-  pub trace : SinkUse
+  pub sinks : Sinks
   pub err : SinkUse
 
 -- nothing was taken, and no fault counted
@@ -41,6 +52,10 @@ pub record IsUntouched (source : SourceUse) : Type 0 where
 pub record IsUnwritten (sink : SinkUse) : Type 0 where
   pub text : sink.has ≡ sink.had
   pub count : sink.now ≡ sink.before
+
+pub record AreUnwritten (sinks : Sinks) : Type 0 where
+  pub out : IsUnwritten sinks.out
+  pub trace : IsUnwritten sinks.trace
 
 -- the sink was given this text whole
 abbrev pub WasGiven : SinkUse → List ℕ → Type 0

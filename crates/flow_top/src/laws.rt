@@ -1,4 +1,4 @@
-ghost use Rattle.std.specs.Prelude.{◌≡◌, ◌<◌, ◌≤◌, ◌*◌, ◌++◌, min, false, ℕ, ℤ, pos, List, [], ◌∷◌, length, map, slice_index_or, Option, None};
+ghost use Rattle.std.specs.Prelude.{◌≡◌, ◌<◌, ◌≤◌, ◌+◌, ◌*◌, ◌++◌, min, false, ℕ, ℤ, pos, List, [], ◌∷◌, length, map, slice_index_or, Option, Some, None};
 ghost use Rattle.quant.specs.Interval.{AllHold, point, points};
 ghost use Rattle.flowsheet.specs.Trajectory.{IsTrajectory};
 ghost use Rattle.flowsheet.specs.Limited.{ArePoints};
@@ -14,15 +14,23 @@ ghost use Rattle.flow_top.specs.declared.fault.Stop.{Stop};
 ghost use Rattle.flow_top.specs.Judged.{Judgement, IsJudged};
 ghost use Rattle.flow_top.specs.Course.{Course, written, text_of};
 ghost use Rattle.flow_top.specs.Courses.{IsWork};
-ghost use Rattle.flow_top.specs.RunCourse.{all_rows, labels_of};
-ghost use Rattle.flow_top.specs.CheckCourse.{rank_rows};
+ghost use Rattle.relaxation.specs.Tube.{tube_of};
+ghost use Rattle.relaxation.specs.Core.{last_of, reached};
+ghost use Rattle.relax_core.specs.Board.{RowOf, step_in};
+ghost use Rattle.relax_core.specs.Settled.{Settles};
+ghost use Rattle.flow_top.specs.RunCourse.{all_rows, traced_in, first_tick, ticks_in};
+ghost use Rattle.report.specs.Output.{labels_of};
+ghost use Rattle.report.specs.Ranks.{rank_rows};
 ghost use Rattle.flow_top.specs.Uses.{SourceUse};
 ghost use Rattle.flow_top.specs.Causes.{IsAtWork, IsEndOn};
 ghost use Rattle.flow_top.specs.Worked.{worked, between};
 
+use feeds::windows_cut_the_run;
 use flow_file::read_parts_are_in_range;
 use flowsheet::{points_run_alone, trajectories_exist, trajectories_lie_in_the_run};
 use plant::{built_plants_are_plants, verdicts_exist};
+use relaxation::legal_steps_keep_the_run;
+use renewal::windows_are_open;
 
 /// What a command at work on a plant prints, as the clauses of `flow_top` on done work, on want of memory and on a failed output
 /// give it.
@@ -87,9 +95,29 @@ pub fn commands_have_one_course()
         IsWork command parts b → a.windows ≡ b.windows }
     ensures text { (command : Command) (parts : FileParts) (a b : Course) → IsWork command parts a →
         IsWork command parts b → (k : ℕ) → k ≤ a.windows → written a k ≡ written b k }
+    ensures trace { (command : Command) (parts : FileParts) (a b : Course) → IsWork command parts a →
+        IsWork command parts b → a.trace ≡ b.trace }
     ensures stop { (command : Command) (parts : FileParts) (a b : Course) → IsWork command parts a →
         IsWork command parts b → a.stop ≡ b.stop }
 {}
+
+/// A legal trace of a run leads from the opening tubes to what is printed: whatever steps it lists for a window, the last versions
+/// that they leave are the bands of the interval run at the window's ticks. `run` writes a trace, and `check` none.
+pub fn traces_lead_to_the_run()
+    ensures run { (words : List (List ℕ)) (plant : SourceUse) (at : IsAtWork words plant) → at.command ≡ Command.Run →
+        at.course.stop ≡ None → at.course.trace ≡ Some (traced_in at.parts) }
+    ensures check { (words : List (List ℕ)) (plant : SourceUse) (at : IsAtWork words plant) → at.command ≡ Command.Check →
+        at.course.trace ≡ None }
+    ensures leads { (words : List (List ℕ)) (plant : SourceUse) (at : IsAtWork words plant) → at.command ≡ Command.Run →
+        at.course.stop ≡ None → (w s : ℕ) → w < at.course.windows → s < length (streams_of at.parts) →
+        (rows : List RowOf) → Settles ((traced_in at.parts).window w) rows →
+        last_of (reached ((traced_in at.parts).window w) (map step_in rows)) s
+        ≡ tube_of (λ t. streams_of_run at.parts (first_tick at.parts w + t) s) (ticks_in at.parts w) }
+{
+    windows_cut_the_run();
+    windows_are_open();
+    legal_steps_keep_the_run();
+}
 
 /// The bands of a worked tank: its level at three ticks, and its outflow at the last.
 pub fn worked_bands()

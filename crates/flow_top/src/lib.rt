@@ -4,7 +4,7 @@
 mod check;
 mod fault;
 mod laws;
-mod lines;
+mod named_files;
 mod pieces;
 mod plant_text;
 mod run;
@@ -13,11 +13,12 @@ mod stops;
 mod top;
 mod words;
 
-pub use fault::{Stop, TopFault};
+pub use fault::Stop;
 pub use laws::{
     commands_have_one_course, courses_print_the_run, printed_bands_hold_trajectories,
-    texts_are_judged_once, worked_bands,
+    texts_are_judged_once, traces_lead_to_the_run, worked_bands,
 };
-pub use lines::memory_line;
+pub use named_files::files;
+pub use report::{TopFault, memory_line};
 pub use top::flow_top;
-pub use words::Command;
+pub use words::{Command, Files, Request};

@@ -5,12 +5,13 @@ ghost use Rattle.flow_top.specs.Judged.{IsJudged, most_bytes};
 ghost use Rattle.flow_top.specs.Steps.{Finds, PlantEnded};
 ghost use Rattle.flow_top.specs.Uses.{source_use};
 
-use crate::fault::{End, TopFault, Unfit};
+use crate::fault::{End, Unfit, fault_of_plant, fault_of_text};
 use crate::stops::stop_by;
 use crate::words::Command;
 use flow_edge::{ReadEnd, Source, read_up};
 use flow_file::{Unread, read_plant};
 use plant::{Plant, Unbuilt};
+use report::TopFault;
 use std::alloc::Global;
 
 /// The most bytes that a plant text has.
@@ -45,12 +46,12 @@ fn plant_in(alloc: Global, text: &[u8]) -> Result<Plant, Unfit>
 {
     let parts = match read_plant(alloc, text) {
         Ok(parts) => parts,
-        Err(Unread::Fault(fault)) => return Err(Unfit::Fault(fault.into())),
+        Err(Unread::Fault(fault)) => return Err(Unfit::Fault(fault_of_text(fault))),
         Err(Unread::NoMemory) => return Err(Unfit::NoMemory),
     };
     let plant = match Plant::build(alloc, parts) {
         Ok(plant) => plant,
-        Err(Unbuilt::Fault(fault)) => return Err(Unfit::Fault(fault.into())),
+        Err(Unbuilt::Fault(fault)) => return Err(Unfit::Fault(fault_of_plant(fault))),
         Err(Unbuilt::NoMemory) => return Err(Unfit::NoMemory),
     };
     Ok(plant)

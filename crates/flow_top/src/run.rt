@@ -1,40 +1,54 @@
-//! The command `run`: the rows of a plant's interval run.
+//! The command `run`: a plant's window, relaxed, with a trace of the steps.
 
-ghost use Rattle.std.specs.Prelude.{◌≡◌, ◌⊎◌, ◌≤◌, ◌++◌, length, IfOk, OnOk};
+ghost use Rattle.std.specs.Prelude.{◌≡◌, ◌⊎◌, ◌≤◌, None, IfOk};
 ghost use Rattle.std.specs.Option.{option_map};
-ghost use Rattle.plant_streams.specs.Streams.{streams_of};
-ghost use Rattle.plant.specs.Rows.{IsRow, stream_in};
-ghost use Rattle.tables.specs.Output.{rows_from};
+ghost use Rattle.plant.specs.Sound.{IsPlant};
 ghost use Rattle.flow_top.specs.declared.words.Command.TheVariants.{Run};
 ghost use Rattle.flow_top.specs.declared.fault.End.TheVariants.{Stopped, NoMemory};
-ghost use Rattle.flow_top.specs.declared.fault.TopFault.TheVariants.{NotBuilt};
+ghost use Rattle.report.specs.declared.fault.TopFault.TheVariants.{NotBuilt};
 ghost use Rattle.flow_top.specs.Ended.{WorkEnded};
 ghost use Rattle.flow_top.specs.Faults.{stop_by};
-ghost use Rattle.flow_top.specs.RunCourse.{all_rows, labels_of, asks_for_widths, not_built};
-ghost use Rattle.flow_top.specs.Uses.{sink_use};
+ghost use Rattle.flow_top.specs.RunCourse.{asks_for_widths, not_built};
+ghost use Rattle.flow_top.specs.Steps.{IsRelaxed, AreTexts};
+ghost use Rattle.flow_top.specs.Uses.{sinks_use};
 
-use crate::fault::{End, TopFault};
-use crate::pieces::write_piece;
+use crate::fault::End;
+use crate::pieces::write_pair;
 use crate::stops::stop_by;
 use crate::words::Command;
+use feeds::{given_tubes, windows_cut_the_run};
 use flow_edge::Sink;
 use parts::{Parts, Widths};
-use plant::{Plant, Row, direct_steps_make_the_run};
-use plant_names::Place;
-use tables::{Rows, output_header};
+use plant::Plant;
+use plant_names::{Place, Text};
+use relax_core::{Board, Window, quiet_boards_are_settled};
+use renewal::{Carried, WindowPlan};
+use report::{TopFault, output_header, trace_header, trace_rows, tube_rows};
 use std::alloc::{AllocError, Global};
 
-/// Writes the header and then the rows of the plant's one window.
-pub fn write_run<O: Sink>(alloc: Global, plant: &Plant, out: &mut O) -> Result<(), End>
+/// Writes the headers of output and trace, and then the rows of the plant's one window and those of its steps.
+pub fn write_run<O: Sink, T: Sink>(
+    alloc: Global,
+    plant: &Plant,
+    out: &mut O,
+    trace: &mut T,
+) -> Result<(), End>
+    requires { IsPlant plant.now }
     ensures { WorkEnded Run plant.now
-        (sink_use O.given O.faults out.old out.new) result }
+        (sinks_use O.given O.faults out.old out.new T.given T.faults trace.old trace.new) result }
 {
     if let Some(key) = not_built(plant.parts()) {
         return Err(unbuilt(alloc, key));
     }
-    write_piece(Command::Run, output_header(), out)?;
-    let rows = plant_rows(alloc, plant)?;
-    write_piece(Command::Run, &rows, out)
+    write_pair(Command::Run, output_header(), trace_header(), out, trace)?;
+    let texts = window_texts(alloc, plant)?;
+    write_pair(
+        Command::Run,
+        texts.rows.as_bytes(),
+        texts.steps.as_bytes(),
+        out,
+        trace,
+    )
 }
 
 /// The end of a run that is not built yet.
@@ -70,33 +84,39 @@ fn asks_for_widths(width: Widths) -> bool
     width.flow.is_some() || width.conc.is_some() || width.temp.is_some() || width.signal.is_some()
 }
 
-/// The rows of every tick, by stepping the whole plant from its opening bands.
-fn plant_rows(alloc: Global, plant: &Plant) -> Result<Vec<u8>, AllocError>
-    ensures { IfOk result (λ text. text.items ≡ all_rows plant.now) }
-{
-    direct_steps_make_the_run();
-    let parts = plant.parts();
-    let mut row = plant.row(alloc)?;
-    let mut rows = Rows::new(alloc);
-    for tick in 0..parts.ticks {
-        plant.set_given(&mut row, tick);
-        plant.direct_step(&mut row);
-        put_tick(&mut rows, tick, plant, &row)?;
-    }
-    rows.into_text()
+/// The texts of a window.
+#[derive(Drop)]
+struct Texts {
+    rows: Text,
+    steps: Text,
 }
 
-/// Adds the rows of one tick, stream by stream.
-fn put_tick(rows: &mut Rows, tick: u32, plant: &Plant, row: &Row) -> Result<(), AllocError>
-    requires few { length (streams_of plant.now) ≤ 1024 }
-    requires row { IsRow plant.now row.now }
-    ensures { OnOk result (rows.new ≡ rows.old ++ rows_from tick (stream_in row.now) 0 (labels_of plant.now)) }
+/// The rows of the plant's one window, and those of the steps that settled it.
+fn window_texts(alloc: Global, plant: &Plant) -> Result<Texts, AllocError>
+    requires plant { IsPlant plant.now }
+    requires built { not_built plant.now ≡ None }
+    ensures { IfOk result (λ texts. AreTexts plant.now 0 texts.rows texts.steps) }
 {
-    let streams = plant.streams();
-    for s in 0..streams.len() {
-        let stream = &streams[s];
-        let bands = row.stream(s as u32);
-        rows.put_stream(tick, stream.name.as_bytes(), stream.signal, bands)?;
-    }
-    Ok(())
+    let window = relaxed(alloc, plant, plant.parts().ticks)?;
+    let rows = tube_rows(alloc, plant, &window)?;
+    let steps = trace_rows(alloc, plant, 0, &window)?;
+    Ok(Texts { rows, steps })
+}
+
+/// The first ticks of a plant's run, by settling a board.
+fn relaxed(alloc: Global, plant: &Plant, ticks: u32) -> Result<Window, AllocError>
+    requires plant { IsPlant plant.now }
+    requires some { 1 ≤ ticks }
+    requires few { ticks ≤ 64 }
+    requires inside { ticks ≤ plant.now.ticks }
+    ensures { IfOk result (IsRelaxed plant.now 0 ticks) }
+{
+    windows_cut_the_run();
+    quiet_boards_are_settled();
+    let carried = Carried::opening(alloc, plant)?;
+    let feeds = given_tubes(alloc, plant, 0, ticks)?;
+    let plan = WindowPlan::new(plant, 0, ticks, carried, feeds);
+    let mut board = Board::open(alloc, &plan)?;
+    board.settle(alloc)?;
+    board.into_window(alloc)
 }

@@ -2,12 +2,12 @@
 
 ghost use Rattle.std.specs.Prelude.{◌≡◌, None};
 ghost use Rattle.flow_top.specs.Stands.{Said, SaidStop, SaidLine};
-ghost use Rattle.flow_top.specs.Lines.{constant_line};
+ghost use Rattle.report.specs.Lines.{constant_line};
 ghost use Rattle.flow_top.specs.Uses.{sink_use};
 
 use crate::fault::{End, Stop};
-use crate::lines::{constant_line, fault_line, memory_line};
 use flow_edge::{Sink, Status};
+use report::{constant_line, fault_line, memory_line};
 use std::alloc::{AllocError, Global};
 
 /// Says how the work ended, and answers its status: nothing where it is whole, and else one line.
@@ -40,7 +40,7 @@ fn say_made_line<F: Sink>(alloc: Global, stop: &Stop, err: &mut F) -> Status
         (sink_use F.given F.faults err.old err.new) result }
 {
     match fault_line(alloc, &stop.fault) {
-        Ok(line) => say_line(&line, stop.status, err),
+        Ok(line) => say_line(line.as_bytes(), stop.status, err),
         Err(AllocError) => say_line(memory_line(), Status::NoMemory, err),
     }
 }

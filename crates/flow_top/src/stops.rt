@@ -3,9 +3,10 @@
 ghost use Rattle.std.specs.Prelude.{◌≡◌};
 ghost use Rattle.flow_top.specs.Faults.{own_status, status_of, stop_by};
 
-use crate::fault::{Stop, TopFault};
+use crate::fault::Stop;
 use crate::words::Command;
 use flow_edge::Status;
+use report::TopFault;
 
 /// The status of a fault: a plant is refused, or a device failed.
 #[tactic(auto, unfolding(crate::specs::Faults::own_status))]
@@ -15,7 +16,7 @@ fn own_status(fault: &TopFault) -> Status
     match fault {
         TopFault::Words { .. } => Status::Words,
         TopFault::ReadPlant => Status::ReadFault,
-        TopFault::WriteOut => Status::WriteFault,
+        TopFault::WriteOut | TopFault::WriteTrace => Status::WriteFault,
         _ => Status::Refused,
     }
 }

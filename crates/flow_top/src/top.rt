@@ -7,23 +7,25 @@ ghost use Rattle.flow_top.specs.Words.{command_in};
 ghost use Rattle.flow_top.specs.Ended.{Ended, CommandEnded, WorkEnded};
 ghost use Rattle.flow_top.specs.Causes.{WroteAll, SaysStop, SaysWords, SaysReadFault, SaysWriteFault, SaysNothing, SaysMemory};
 ghost use Rattle.flow_top.specs.Causes.{IsEndOn, AnswersOr, AnswersUnlessRead};
-ghost use Rattle.flow_top.specs.Uses.{source_use, sink_use, IsUnwritten};
+ghost use Rattle.flow_top.specs.Uses.{source_use, sink_use, sinks_use, IsUnwritten};
 ghost use Rattle.flow_top.specs.Stands.{Stands};
 
 use crate::check::write_ranks;
-use crate::fault::{End, Stop, TopFault};
+use crate::fault::{End, Stop};
 use crate::plant_text::plant_from;
 use crate::run::write_run;
 use crate::saying::say;
-use crate::words::{Command, command_in};
+use crate::words::{Command, request_in};
 use flow_edge::{Gate, Sink, Source, Status, Word};
 use plant::Plant;
+use report::TopFault;
 use std::alloc::Global;
 use std::thread::Threads;
 
 /// Does a command. `plant` holds the plant text and `out` is given the output; what goes wrong is said to `err` in one
-/// line. `run` gives the interval run of the plant, at this stage where it runs in one window and asks for no widths; `check`
-/// gives its units with their kinds and ranks. `rt`, `extra`, `trace` and `gate` are not used yet.
+/// line. `run` gives the interval run of the plant, at this stage where it runs in one window and asks for no widths, by relaxing
+/// it, and gives `trace` the steps that narrowed; `check` gives its units with their kinds and ranks. `rt`, `extra` and `gate`
+/// are not used yet.
 ///
 /// Every answer but want of memory has its cause: refused words, a plant text that is refused, or a device whose count
 /// of faults rose in this call. The clauses below say so status by status; all but the last follow from the last, `stands`.
@@ -47,25 +49,25 @@ where
     F: Sink,
     G: Gate + Sync,
     // Done: the words are a command, the plant source was read to its end, and all that the command writes for the plant of
-    // its text was written, and nothing to the errors.
+    // its text was written, with a legal trace of it, and nothing to the errors.
     ensures done { result ≡ Status.Done → WroteAll words.now
-        (source_use S.left S.faults plant.old plant.new) (sink_use O.given O.faults out.old out.new) }
+        (source_use S.left S.faults plant.old plant.new) (sinks_use O.given O.faults out.old out.new T.given T.faults trace.old trace.new) }
     ensures done_quiet { result ≡ Status.Done → IsUnwritten (sink_use F.given F.faults err.old err.new) }
 
     // Words: exactly where they are refused, but where their line could not be written or memory ran out.
     ensures words { result ≡ Status.Words → SaysWords words.now
-        (source_use S.left S.faults plant.old plant.new) (sink_use O.given O.faults out.old out.new)
+        (source_use S.left S.faults plant.old plant.new) (sinks_use O.given O.faults out.old out.new T.given T.faults trace.old trace.new)
         (sink_use F.given F.faults err.old err.new) }
     ensures words_only { (at : ℕ) → command_in words.now ≡ Err at →
         AnswersOr Status.Words (sink_use F.given F.faults err.old err.new) result }
 
     // Refused and No: exactly where the command ends on the text of the plant source in a stop of this status, with its line
-    // and nothing in the output; but where the source failed, the line could not be written or memory ran out.
+    // and nothing in the output or the trace; but where the source failed, the line could not be written or memory ran out.
     ensures refused { result ≡ Status.Refused → SaysStop Status.Refused words.now
-        (source_use S.left S.faults plant.old plant.new) (sink_use O.given O.faults out.old out.new)
+        (source_use S.left S.faults plant.old plant.new) (sinks_use O.given O.faults out.old out.new T.given T.faults trace.old trace.new)
         (sink_use F.given F.faults err.old err.new) }
     ensures no { result ≡ Status.No → SaysStop Status.No words.now
-        (source_use S.left S.faults plant.old plant.new) (sink_use O.given O.faults out.old out.new)
+        (source_use S.left S.faults plant.old plant.new) (sinks_use O.given O.faults out.old out.new T.given T.faults trace.old trace.new)
         (sink_use F.given F.faults err.old err.new) }
     ensures stopped_only { (command : Command) (text : List ℕ) (stop : Stop) → command_in words.now ≡ Ok command →
         S.left plant.old ≡ Some text → IsEndOn command text (Some stop) →
@@ -74,17 +76,17 @@ where
 
     // Read fault and write fault: only where a count of faults rose, and with their line but where the errors failed.
     ensures read_fault { result ≡ Status.ReadFault → SaysReadFault
-        (source_use S.left S.faults plant.old plant.new) (sink_use O.given O.faults out.old out.new)
+        (source_use S.left S.faults plant.old plant.new) (sinks_use O.given O.faults out.old out.new T.given T.faults trace.old trace.new)
         (sink_use F.given F.faults err.old err.new) }
     ensures write_fault { result ≡ Status.WriteFault →
         SaysWriteFault words.now (source_use S.left S.faults plant.old plant.new)
-        (sink_use O.given O.faults out.old out.new) (sink_use F.given F.faults err.old err.new) ⊎
+        (sinks_use O.given O.faults out.old out.new T.given T.faults trace.old trace.new) (sink_use F.given F.faults err.old err.new) ⊎
         SaysNothing words.now (source_use S.left S.faults plant.old plant.new)
-        (sink_use O.given O.faults out.old out.new) (sink_use F.given F.faults err.old err.new) }
+        (sinks_use O.given O.faults out.old out.new T.given T.faults trace.old trace.new) (sink_use F.given F.faults err.old err.new) }
 
-    // Want of memory comes with its line, and with nothing in the output, or the header and whole windows of a plant.
+    // Want of memory comes with its line, and with nothing in the output and the trace, or both headers and the same windows.
     ensures no_memory { result ≡ Status.NoMemory → SaysMemory words.now
-        (source_use S.left S.faults plant.old plant.new) (sink_use O.given O.faults out.old out.new)
+        (source_use S.left S.faults plant.old plant.new) (sinks_use O.given O.faults out.old out.new T.given T.faults trace.old trace.new)
         (sink_use F.given F.faults err.old err.new) }
 
     // The status of results that are too wide never comes.
@@ -94,7 +96,7 @@ where
     ensures complete { (command : Command) (text : List ℕ) → command_in words.now ≡ Ok command →
         S.left plant.old ≡ Some text → IsEndOn command text None →
         ¬ Rose (S.faults plant.old) (S.faults plant.new) → ¬ Rose (O.faults out.old) (O.faults out.new) →
-        ¬ Rose (F.faults err.old) (F.faults err.new) →
+        ¬ Rose (T.faults trace.old) (T.faults trace.new) → ¬ Rose (F.faults err.old) (F.faults err.new) →
         (result ≡ Status.Done) ⊎ (result ≡ Status.NoMemory) }
 
     // What stands after the call, for every status and every device.
@@ -102,30 +104,30 @@ where
         (record {
           plant = source_use S.left S.faults plant.old plant.new;
           extra = source_use E.left E.faults extra.old extra.new;
-          out = sink_use O.given O.faults out.old out.new;
-          trace = sink_use T.given T.faults trace.old trace.new;
+          sinks = sinks_use O.given O.faults out.old out.new T.given T.faults trace.old trace.new;
           err = sink_use F.given F.faults err.old err.new;
         })
         result }
 {
-    let ended = work(alloc, words, plant, out);
+    let ended = work(alloc, words, plant, out, trace);
     say(alloc, &ended, err)
 }
 
 /// Reads the words, and does what they ask for.
-fn work<S: Source, O: Sink>(
+fn work<S: Source, O: Sink, T: Sink>(
     alloc: Global,
     words: &[Word],
     source: &mut S,
     out: &mut O,
+    trace: &mut T,
 ) -> Result<(), End>
     ensures { Ended words.now
         (source_use S.left S.faults source.old source.new)
-        (sink_use O.given O.faults out.old out.new)
+        (sinks_use O.given O.faults out.old out.new T.given T.faults trace.old trace.new)
         result }
 {
-    match command_in(words) {
-        Ok(command) => do_command(alloc, command, source, out),
+    match request_in(words) {
+        Ok(request) => do_command(alloc, request.command, source, out, trace),
         Err(at) => Err(End::Stopped(Stop {
             fault: TopFault::Words { at },
             status: Status::Words,
@@ -134,36 +136,38 @@ fn work<S: Source, O: Sink>(
 }
 
 /// Reads the plant, and does the command on it.
-fn do_command<S: Source, O: Sink>(
+fn do_command<S: Source, O: Sink, T: Sink>(
     alloc: Global,
     command: Command,
     source: &mut S,
     out: &mut O,
+    trace: &mut T,
 ) -> Result<(), End>
     ensures { CommandEnded command
         (source_use S.left S.faults source.old source.new)
-        (sink_use O.given O.faults out.old out.new)
+        (sinks_use O.given O.faults out.old out.new T.given T.faults trace.old trace.new)
         result }
 {
     match plant_from(alloc, command, source) {
-        Ok(plant) => do_on_plant(alloc, command, &plant, out),
+        Ok(plant) => do_on_plant(alloc, command, &plant, out, trace),
         Err(end) => Err(end),
     }
 }
 
 /// Does the command on a plant.
-fn do_on_plant<O: Sink>(
+fn do_on_plant<O: Sink, T: Sink>(
     alloc: Global,
     command: Command,
     plant: &Plant,
     out: &mut O,
+    trace: &mut T,
 ) -> Result<(), End>
     requires { IsPlant plant.now }
     ensures { WorkEnded command plant.now
-        (sink_use O.given O.faults out.old out.new) result }
+        (sinks_use O.given O.faults out.old out.new T.given T.faults trace.old trace.new) result }
 {
     match command {
-        Command::Run => write_run(alloc, plant, out),
+        Command::Run => write_run(alloc, plant, out, trace),
         Command::Check => write_ranks(alloc, plant, out),
     }
 }

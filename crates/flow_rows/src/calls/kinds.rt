@@ -58,7 +58,7 @@ pub static CASES: [Case; 25] = [
         plant: LOOP,
         failing_err_writes: &[1],
         status: Status::WriteFault,
-        faults: (0, 1),
+        faults: (0, 0, 1),
         ..NO
     },
     Case {
@@ -103,6 +103,7 @@ pub static CASES: [Case; 25] = [
         words: &["check"],
         failing_writes: &[2],
         out: Text(RANK_HEADER),
+        trace: NOTHING,
         ..OUT_FAULT
     },
     Case {

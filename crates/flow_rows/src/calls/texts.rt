@@ -1,7 +1,7 @@
 //! Plants of the cases, and what the program writes of them.
 
 use crate::sources::{FIRST_TANK, Plant};
-pub use crate::written::HEADER;
+pub use crate::written::{HEADER, TRACE_HEADER};
 use crate::written::Written;
 use plant_texts::{COLUMN, MIXER, RATES, REACTOR, SPLITTER, TANK, Unit};
 
@@ -185,6 +185,8 @@ s16,splitter,16
 ";
 
 pub const WRITE_FAULT: &str = "flowrelax: write fault on out\n";
+
+pub const TRACE_WRITE_FAULT: &str = "flowrelax: write fault on trace\n";
 
 /// A reactor whose rate falls with the temperature: its points do not rise.
 pub const FALLING_REACTOR: Plant = Plant::One(

@@ -1,0 +1,24 @@
+use Rattle.std.proofs.Common.{◌∙◌, ◌<◌, ℕ, map, length, sym, subst}
+use Rattle.plant.proofs.Lookups.{streams-counted}
+use Rattle.renewal.specs.Plan.{window_of}
+use Rattle.relax_core.specs.Board.{step_in}
+use Rattle.feeds.specs.Given.{run_plan}
+use Rattle.flow_top.specs.declared.words.Command.{Command}
+use Rattle.flow_top.specs.Courses.{IsCourse}
+use Rattle.flow_top.specs.RunCourse.{first_tick, ticks_in}
+use Rattle.flow_top.proofs.RunRows.{window-inside}
+use Rattle.flow_top.proofs.laws.traces_lead_to_the_run.Goals as goal
+
+pub returns-clause-leads : goal.returns-clause-leads
+returns-clause-leads c words plant at run whole w s l m rows settles =
+    let parts = at.parts in
+    let follows = subst (λ (k : Command). IsCourse k parts at.course) run at.work.follows in
+    let inside = window-inside parts at.course at.work.plant follows whole w l in
+    let first = first_tick parts w in
+    let n = ticks_in parts w in
+    let laws = c.windows_cut_the_run.ensures in
+    let opens = c.windows_are_open.ensures (run_plan parts first n)
+    (laws.plan parts first n at.work.plant inside.0 inside.1 inside.2) in
+    c.legal_steps_keep_the_run.ensures.quiet (window_of (run_plan parts first n)) (map step_in rows) opens settles.legal settles.quiet s
+    (subst (λ (n : ℕ). s < n) (sym (streams-counted parts)) m)
+    ∙ laws.run parts first n s at.work.plant inside.0 inside.1 inside.2 m
