@@ -75,7 +75,7 @@ pub record SaysWords (words : List (List ℕ)) (plant : SourceUse) (sinks : Sink
   pub unread : IsUntouched plant
   pub silent : AreUnwritten sinks
 
--- the plant source failed, its line was given, and nothing in the output or the trace or the trace
+-- the plant source failed, its line was given, and nothing in the output or the trace
 pub record SaysReadFault (plant : SourceUse) (sinks : Sinks) (err : SinkUse) : Type 0 where
   pub fault : Rose plant.before plant.now
   pub line : WasGiven err (fault_line ReadPlant)

@@ -1,2 +1,3 @@
 pub mod Labels
 mod Ticks
+pub mod Traces

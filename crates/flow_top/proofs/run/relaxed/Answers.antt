@@ -13,7 +13,7 @@ new-plan-requires c =
     subst IsPlan
     (sym (plan-is parts n c.in_ok-carried.carried c.in_ok-feeds.feeds
     (c.in_ok-carried.ensures ∙ sym (c.windows_cut_the_run.ensures.opening parts n)) c.in_ok-feeds.ensures))
-    (c.windows_cut_the_run.ensures.plan parts 0 n c.requires.plant c.requires.some c.requires.few c.requires.inside)
+    (c.windows_cut_the_run.ensures.plan parts 0 n c.requires.plant c.requires.some c.requires.few (omega (arith, c.requires.inside)))
 
 pub returns : goal.returns
 returns c =
@@ -28,4 +28,4 @@ returns c =
     left-is parts n board plan c.into_window.result c.into_window.ensures.window (laws.window board c.into_window.ensures.board)
     (laws.rows board c.into_window.ensures.board c.in_ok-settle.ensures.quiet)
     (laws.tubes board c.into_window.ensures.board c.in_ok-settle.ensures.quiet)
-    (λ s l. c.windows_cut_the_run.ensures.run parts 0 n s c.requires.plant c.requires.some c.requires.few c.requires.inside l)
+    (λ s l. c.windows_cut_the_run.ensures.run parts 0 n s c.requires.plant c.requires.some c.requires.few (omega (arith, c.requires.inside)) l)
