@@ -1,5 +1,5 @@
 -- The unit takes what its tubes have at the tick, and one tick more is renewed.
-use Rattle.std.proofs.Common.{◌≡◌, ◌+◌, ◌∙◌, ℕ, List, length, take, ap, sym, subst, arith}
+use Rattle.std.proofs.Common.{◌≡◌, ◌<◌, ◌+◌, ◌∙◌, ℕ, List, length, take, ap, sym, subst, arith}
 use Rattle.std.specs.Prelude.{slice_set}
 use Rattle.quant.specs.Interval.{Interval, AllInside}
 use Rattle.relaxation.specs.Tube.{Tube, at}
@@ -9,7 +9,7 @@ use Rattle.plant_units.specs.Units.{state_limits_of, MayTake}
 use Rattle.plant_units.specs.Steps.{views, steps}
 use Rattle.plant_units.proofs.AllKinds.{takes-few}
 use Rattle.renewal.specs.Plan.{PlanOf}
-use Rattle.renewal.specs.Room.{RenewalOf, HasRoomFor}
+use Rattle.renewal.specs.Room.{RenewalOf, HasRoomFor, AreOpened, planned}
 use Rattle.renewal.specs.Giver.{IsGiver}
 use Rattle.renewal.specs.Ticks.{spread_at, IsRenewed}
 use Rattle.renewal.proofs.Givers.{row-taken, tubes-ticked, state-limits-are}
@@ -35,6 +35,14 @@ still-counted : (plan : PlanOf) (u : ℕ) (x : Unit) → IsGiver plan u x → (m
 still-counted plan u x g made ports e room =
     ap (λ (after : RenewalOf). length after.states) e ∙ states-counted plan u x g made room
 
+-- it takes what is gathered of its tubes
+gathered-taken : (plan : PlanOf) (u : ℕ) (x : Unit) → IsGiver plan u x → (t : ℕ) {tubes inputs : List Tube}
+    {bands : List Interval} →
+    tubes ≡ inputs → bands ≡ row_of tubes t → t < plan.ticks → AreOpened plan (planned plan u).reads inputs →
+    MayTake x bands
+gathered-taken plan u x g t {inputs = inputs} same bands m o =
+    subst (MayTake x) (sym (bands ∙ ap (λ (ts : List Tube). row_of ts t) same)) (row-taken plan u x g t inputs m o)
+
 pub gather_at-count-requires-clause-ticked : goal.gather_at-count-requires-clause-ticked
 gather_at-count-requires-clause-ticked c =
     let plan = c.args.plan.now in
@@ -59,7 +67,8 @@ step-requires-clause-sound c = c.unit-giver.ensures.sound.sound
 
 pub show-requires-clause-states : goal.show-requires-clause-states
 show-requires-clause-states c =
-    states-inside c.args.plan.now c.args.unit _ c.unit-giver.ensures c.args.inputs.now c.args.outputs.now c.args.tick c.requires.renewed
+    states-inside c.args.plan.now c.args.unit _ c.unit-giver.ensures c.args.inputs.now c.args.outputs.now c.args.tick
+    c.requires.renewed
 
 pub step-requires-clause-states : goal.step-requires-clause-states
 step-requires-clause-states c =
@@ -71,23 +80,13 @@ step-requires-clause-states c =
 
 pub show-requires-clause-inputs : goal.show-requires-clause-inputs
 show-requires-clause-inputs c =
-    let plan = c.args.plan.now in
-    let x = c.unit-giver.result.now in
-    let g = c.unit-giver.ensures in
-    let tubes = c.args.inputs.now in
-    let bands = c.gather_at-count.ensures.bands ∙ ap (λ (ts : List Tube). row_of ts c.args.tick) c.as_slice.ensures in
-    let taken = row-taken plan c.args.unit x g c.args.tick tubes c.requires.tick c.requires.inputs in
-    λ instant. subst (MayTake x) (sym bands) taken
+    λ instant. gathered-taken c.args.plan.now c.args.unit _ c.unit-giver.ensures c.args.tick c.as_slice.ensures
+    c.gather_at-count.ensures.bands c.requires.tick c.requires.inputs
 
 pub step-requires-clause-inputs : goal.step-requires-clause-inputs
 step-requires-clause-inputs c =
-    let plan = c.args.plan.now in
-    let x = c.unit-giver.result.now in
-    let g = c.unit-giver.ensures in
-    let tubes = c.args.inputs.now in
-    let bands = c.gather_at-count.ensures.bands ∙ ap (λ (ts : List Tube). row_of ts c.args.tick) c.as_slice.ensures in
-    let taken = row-taken plan c.args.unit x g c.args.tick tubes c.requires.tick c.requires.inputs in
-    subst (MayTake x) (sym bands) taken
+    gathered-taken c.args.plan.now c.args.unit _ c.unit-giver.ensures c.args.tick c.as_slice.ensures
+    c.gather_at-count.ensures.bands c.requires.tick c.requires.inputs
 
 pub show-requires-clause-room : goal.show-requires-clause-room
 show-requires-clause-room c =
@@ -103,7 +102,8 @@ step-requires-clause-tick c =
 
 pub step-requires-clause-few : goal.step-requires-clause-few
 step-requires-clause-few c =
-    omega (arith, still-counted _ _ _ c.unit-giver.ensures _ _ c.show.ensures c.requires.renewed.shape, c.unit-giver.ensures.plan_is.few)
+    let g = c.unit-giver.ensures in
+    omega (arith, still-counted _ _ _ g _ _ c.show.ensures c.requires.renewed.shape, g.plan_is.few)
 
 pub step-requires-clause-next : goal.step-requires-clause-next
 step-requires-clause-next c =
