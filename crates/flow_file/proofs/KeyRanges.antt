@@ -3,11 +3,12 @@ use Rattle.parts.specs.InRange.{AllMeet}
 use Rattle.toml.specs.Data.{Data}
 use Rattle.flow_file.specs.Read.{Reading}
 use Rattle.flow_file.specs.Value.{Bytes, Section, no_others}
-use Rattle.flow_file.specs.CommonKeys.{both_at, channels_of, quantities_of}
+use Rattle.flow_file.specs.Value.{both_at, channels_of, quantities_of}
 use Rattle.flow_file.proofs.Yields.{Yields, Reads, given, anything, after, required}
 
 pub both : {A : Type 0} {P : A → Type 0} {read : Bytes → Data → Reading A} → Reads P read →
-    (section : Section) (first second : Bytes) → Yields (λ both. P both.0 × P both.1) (both_at read section first second)
+    (section : Section) (first second : Bytes) →
+    Yields (λ both. P both.0 × P both.1) (both_at read section first second)
 unfolding both_at
 both each section first second =
     after (required each section first) (λ one one_is.

@@ -12,7 +12,7 @@ use Rattle.toml.specs.Data.{Data, Items, item, as_array}
 use Rattle.flow_file.specs.declared.fault.TextFault.TheVariants as fault
 use Rattle.flow_file.specs.Read.{Reading, ◌>>=◌}
 use Rattle.flow_file.specs.Value.{Bytes, or_fault, when, Section}
-use Rattle.flow_file.specs.CommonKeys.{channels_of}
+use Rattle.flow_file.specs.Value.{channels_of}
 use Rattle.flow_file.specs.Value.{at_key, no_others, is_in, triple_of, band_between, band_of, word_of, name_of, list_of}
 
 -- a piece: its tick, and the ends of its band

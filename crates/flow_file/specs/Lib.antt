@@ -1,7 +1,6 @@
 pub mod Read
 pub mod Value
 pub mod Spots
-pub mod CommonKeys
 pub mod Feeds
 pub mod Units
 pub mod Plant

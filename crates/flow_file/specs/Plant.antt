@@ -12,7 +12,7 @@ use Rattle.flow_file.specs.declared.plant.Frame.{Frame}
 use Rattle.flow_file.specs.Read.{Reading, ◌>>=◌}
 use Rattle.flow_file.specs.Value.{Bytes, or_fault, when, Section, table_of}
 use Rattle.flow_file.specs.Value.{at_key, at_optional, no_others, is_in, number_in, count_in, band_of, list_of, tree_of}
-use Rattle.flow_file.specs.CommonKeys.{channels_of, quantities_of}
+use Rattle.flow_file.specs.Value.{channels_of, quantities_of}
 use Rattle.flow_file.specs.Feeds.{feed_of}
 use Rattle.flow_file.specs.Units.{unit_of}
 

@@ -19,7 +19,7 @@ use Rattle.flow_file.specs.declared.kinds.Opening.{Opening}
 use Rattle.flow_file.specs.declared.kinds.Settings.{Settings}
 use Rattle.flow_file.specs.Read.{Reading, ◌>>=◌}
 use Rattle.flow_file.specs.Value.{Bytes, or_fault, when, Section, table_of, at_key, at_optional, no_others}
-use Rattle.flow_file.specs.CommonKeys.{both_at, channels_of, quantities_of}
+use Rattle.flow_file.specs.Value.{both_at, channels_of, quantities_of}
 use Rattle.flow_file.specs.Value.{is_in, number_in, count_in, band_of, pair_of, word_of, name_of, reference_of, list_of}
 
 -- a part of a whole, and a gain

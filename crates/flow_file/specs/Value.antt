@@ -5,12 +5,14 @@ use Rattle.std.specs.List.{list_any}
 use Rattle.std.specs.Str.{is_utf8}
 use Rattle.quant.specs.Interval.{Interval, wide}
 use Rattle.parts.specs.InRange.{from_to}
+use Rattle.parts.specs.declared.units.Quantities.{Quantities}
 use Rattle.plant_names.specs.Name.{is_name, is_reference}
 use Rattle.toml.specs.Data.{Data, Items, no_items, item, Members, no_members, member, get_member}
 use Rattle.toml.specs.Data.{as_integer, as_str, as_array, as_table}
 use Rattle.toml.specs.Parse.{parse_document}
 use Rattle.flow_file.specs.declared.fault.TextFault.{TextFault}
 use Rattle.flow_file.specs.declared.fault.TextFault.TheVariants as fault
+use Rattle.flow_file.specs.declared.common_keys.Channels.{Channels}
 use Rattle.flow_file.specs.Read.{Reading, ◌>>=◌}
 
 abbrev pub Bytes : Type 0
@@ -77,6 +79,30 @@ refuse_key section (Some key) = Err (fault.UnknownKey (key_place section key))
 -- the table has no other keys than these
 unfoldable pub no_others : List Bytes → Section → Reading (Unit {0})
 no_others known section = refuse_key section (first_other known section.members)
+
+-- what is read in one way at two keys
+unfoldable pub both_at : {A : Type 0} → (Bytes → Data → Reading A) → Section → Bytes → Bytes → Reading (A × A)
+both_at read section first second = do
+  one ← at_key read section first
+  other ← at_key read section second
+  Ok (one, other)
+
+-- what is read in one way at the keys of a stream's channels
+unfoldable pub channels_of : {A : Type 0} → (Section → Bytes → Reading A) → Section → Reading (Channels A)
+channels_of at section = do
+  flow ← at section (codes "flow")
+  conc ← at section (codes "conc")
+  temp ← at section (codes "temp")
+  Ok (record { flow = flow; conc = conc; temp = temp })
+
+-- what is read in one way at the keys of all quantities that have limits, of a table that has no others
+unfoldable pub quantities_of : {A : Type 0} → (Section → Bytes → Reading A) → Section → Reading (Quantities A)
+quantities_of at section = do
+  stream ← channels_of at section
+  volume ← at section (codes "volume")
+  signal ← at section (codes "signal")
+  others ← no_others (codes "flow" ∷ codes "conc" ∷ codes "temp" ∷ codes "volume" ∷ codes "signal" ∷ []) section
+  Ok (record { flow = stream.flow; conc = stream.conc; temp = stream.temp; volume = volume; signal = signal })
 
 -- whether a number lies in a range
 abbrev pub is_in : Interval → ℤ → Bool

@@ -4,7 +4,7 @@ ghost use Rattle.std.specs.Prelude.{IfOk, IfSome};
 ghost use Rattle.parts.specs.InRange.{AllMeet};
 ghost use Rattle.flow_file.specs.Read.{Reading, Gives};
 ghost use Rattle.flow_file.specs.Value.{Bytes, Section as Keys, at_key, at_optional};
-ghost use Rattle.flow_file.specs.CommonKeys.{both_at, channels_of, quantities_of};
+ghost use Rattle.flow_file.specs.Value.{both_at, channels_of, quantities_of};
 ghost use Rattle.flow_file.specs.Spots.{seen};
 
 use crate::fault::Unread;
@@ -72,7 +72,7 @@ impl<R: Reader> KeyReader for Optional<R> {
 }
 
 /// What one reader reads at two keys.
-#[tactic(auto, unfolding(crate::specs::CommonKeys::both_at))]
+#[tactic(auto, unfolding(crate::specs::Value::both_at))]
 pub(crate) fn both_at<R: Reader>(
     alloc: Global,
     section: &Section,
@@ -97,7 +97,7 @@ pub(crate) struct Channels<T> {
 }
 
 /// What is read at the keys of a stream's channels.
-#[tactic(auto, unfolding(crate::specs::CommonKeys::channels_of))]
+#[tactic(auto, unfolding(crate::specs::Value::channels_of))]
 pub(crate) fn channels_of<K: KeyReader>(
     alloc: Global,
     section: &Section,
@@ -129,7 +129,7 @@ where
 
     ghost may_be = { λ table. AllMeet (K.may_be table.each) };
 
-    #[tactic(auto, unfolding(crate::specs::CommonKeys::quantities_of))]
+    #[tactic(auto, unfolding(crate::specs::Value::quantities_of))]
     fn read_keys(self, alloc: Global, section: &Section) -> Result<Quantities<K::Item>, Unread> {
         let stream = channels_of(alloc, section, self.each)?;
         let volume = self.each.read_at(alloc, section, "volume")?;

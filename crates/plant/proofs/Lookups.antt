@@ -4,7 +4,6 @@ use Rattle.std.proofs.Common.{add-zero, zero-add, refl, ap}
 use Rattle.std.proofs.Math.ListN.{get_or-map}
 use Rattle.std.proofs.lemmas.List.{get_or_default, length-map}
 use Rattle.std.specs.Prelude.{slice_index_or}
-use Rattle.quant.specs.Interval.{Interval}
 use Rattle.flowsheet.specs.Plant as sheet
 use Rattle.parts.specs.Parts.{FileParts}
 use Rattle.plant_streams.specs.declared.streams.Stream.{Stream}
@@ -13,7 +12,6 @@ use Rattle.plant_streams.specs.Streams.{streams_of}
 use Rattle.plant_streams.specs.declared.streams.StreamSource.{StreamSource}
 use Rattle.plant_streams.specs.Limits.{source_at}
 use Rattle.plant_units.specs.declared.units.Unit.{Unit}
-use Rattle.plant_units.specs.Steps.{bands_at}
 use Rattle.plant_units.specs.Units.{units_of, sheet_unit, gives_of}
 use Rattle.plant.specs.Sound.{IsSoundUnit, AreSoundFrom, outputs_at, IsSource, ArePartsSound}
 use Rattle.plant.specs.PlantOf.{plant_of, origin_in}
@@ -30,15 +28,10 @@ pub at-map : {A B : Type 0} (f : A → B) (xs : List A) (n : ℕ) (x : A) (y : B
 at-map f xs n x y h =
     get_or_default (map f xs) n y (f x) (subst (λ (k : ℕ). n < k) (sym (length-map xs f)) h) ∙ get_or-map f xs n x
 
--- the item, and the bands, that are found at a place
+-- the item that is found at a place
 pub item-there : {A : Type 0} (n : ℕ) (x : A) (found xs : List A) → x ≡ get_or found n x → found ≡ xs →
     x ≡ get_or xs n x
 item-there n x found xs is same = is ∙ ap (λ ys. get_or ys n x) same
-
-pub bands-there : (rows : List (List Interval)) (n : ℕ) (bands row other : List Interval) →
-    n < length rows → bands ≡ row →
-    row ≡ get_or rows n other → bands ≡ bands_at rows n
-bands-there rows n bands row other h e is = e ∙ (is ∙ get_or_default rows n other [] h)
 
 -- a unit that stands at a place is sound there
 sound_in-list : (parts : FileParts) (k : ℕ) (xs : List Unit) (u : ℕ) (x : Unit) → AreSoundFrom parts k xs →

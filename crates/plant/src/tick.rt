@@ -1,6 +1,6 @@
 //! One tick of the whole plant: the streams in the order of ranks, and then the states.
 
-ghost use Rattle.std.specs.Prelude.{◌≡◌, ◌<◌, ◌≤◌, ◌+◌, length, slice_set};
+ghost use Rattle.std.specs.Prelude.{◌≡◌, ◌<◌, ◌≤◌, ◌+◌, length, slice_index_or, slice_set};
 ghost use Rattle.flowsheet.specs.Plant.{IsRanked};
 ghost use Rattle.plant_units.specs.Units.{units_of};
 ghost use Rattle.plant_units.specs.Steps.{bands_at};
@@ -12,7 +12,8 @@ ghost use Rattle.plant.specs.Steps.{AreStates, AreStreams, stepped_by, HaveStepp
 
 use crate::laws::{built_plants_are_plants, checked_parts_are_sound};
 use crate::plant::Plant;
-use plant_units::Bands;
+use plant_units::{Bands, Unit};
+use quant::Band;
 
 /// The greatest of ranks, or 0 where there are none.
 fn greatest_rank(ranks: &[u32]) -> u32
@@ -25,7 +26,23 @@ fn greatest_rank(ranks: &[u32]) -> u32
     greatest
 }
 
+/// The bands in one place of many.
+fn bands_at(rows: &[Bands], place: usize) -> &[Band]
+    requires { place < length rows.now }
+    ensures { result.now ≡ bands_at rows.now place }
+{
+    rows[place].as_slice()
+}
+
 impl Plant {
+    /// The unit with this number.
+    fn unit(&self, number: usize) -> &Unit
+        requires { number < length (units_of self.now) }
+        ensures { result.now ≡ slice_index_or (units_of self.now) number result.now }
+    {
+        &self.units()[number]
+    }
+
     /// What the checks of the parts gave.
     pub(crate) fn sound(&self)
         ensures { ArePartsSound self.now }
@@ -54,8 +71,7 @@ impl Plant {
         ensures shown { HasShown self.now number states.now streams.old streams.new }
     {
         self.sound();
-        let state = states[number].as_slice();
-        self.units()[number].show(state, streams);
+        self.unit(number).show(bands_at(states, number), streams);
     }
 
     /// Gives the outputs of each unit of a rank what it shows, after those of lesser rank.
@@ -96,7 +112,7 @@ impl Plant {
             slice_set states.old number (stepped_by self.now streams.now number (bands_at states.old number)) }
     {
         self.sound();
-        self.units()[number].step(&mut states[number], streams);
+        self.unit(number).step(&mut states[number], streams);
     }
 
     /// Steps the states of each unit.

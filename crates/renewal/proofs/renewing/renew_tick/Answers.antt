@@ -1,5 +1,5 @@
 -- The unit takes what its tubes have at the tick, and one tick more is renewed.
-use Rattle.std.proofs.Common.{◌≡◌, ◌+◌, ◌∙◌, ℕ, List, length, take, ap, sym, subst, arith}
+use Rattle.std.proofs.Common.{◌≡◌, ◌<◌, ◌+◌, ◌∙◌, ℕ, List, length, take, ap, sym, subst, arith}
 use Rattle.std.specs.Prelude.{slice_set}
 use Rattle.quant.specs.Interval.{Interval, AllInside}
 use Rattle.relaxation.specs.Tube.{Tube, at}
@@ -8,7 +8,9 @@ use Rattle.plant_units.specs.declared.units.Unit.{Unit}
 use Rattle.plant_units.specs.Units.{state_limits_of, MayTake}
 use Rattle.plant_units.specs.Steps.{views, steps}
 use Rattle.plant_units.proofs.AllKinds.{takes-few}
-use Rattle.renewal.specs.Room.{RenewalOf}
+use Rattle.renewal.specs.Plan.{PlanOf}
+use Rattle.renewal.specs.Room.{RenewalOf, HasRoomFor, AreOpened, planned}
+use Rattle.renewal.specs.Giver.{IsGiver}
 use Rattle.renewal.specs.Ticks.{spread_at, IsRenewed}
 use Rattle.renewal.proofs.Givers.{row-taken, tubes-ticked, state-limits-are}
 use Rattle.renewal.proofs.Renewed.{states-inside, states-counted, states-wide, shown-filled, renewed-more}
@@ -24,6 +26,22 @@ after_tick x n made row = record {
   ports = spread_at n (views x (at made.states n) row) made.ports;
   states = slice_set made.states (n + 1) (steps x (at made.states n) row);
 }
+
+-- its states stand at as many ticks when it is shown
+still-counted : (plan : PlanOf) (u : ℕ) (x : Unit) → IsGiver plan u x → (made : RenewalOf) (ports : List Tube)
+    {after : RenewalOf} →
+    after ≡ record { ports = ports; states = made.states } → HasRoomFor plan u made →
+    length after.states ≡ plan.ticks + 1
+still-counted plan u x g made ports e room =
+    ap (λ (after : RenewalOf). length after.states) e ∙ states-counted plan u x g made room
+
+-- it takes what is gathered of its tubes
+gathered-taken : (plan : PlanOf) (u : ℕ) (x : Unit) → IsGiver plan u x → (t : ℕ) {tubes inputs : List Tube}
+    {bands : List Interval} →
+    tubes ≡ inputs → bands ≡ row_of tubes t → t < plan.ticks → AreOpened plan (planned plan u).reads inputs →
+    MayTake x bands
+gathered-taken plan u x g t {inputs = inputs} same bands m o =
+    subst (MayTake x) (sym (bands ∙ ap (λ (ts : List Tube). row_of ts t) same)) (row-taken plan u x g t inputs m o)
 
 pub gather_at-count-requires-clause-ticked : goal.gather_at-count-requires-clause-ticked
 gather_at-count-requires-clause-ticked c =
@@ -42,25 +60,15 @@ gather_at-count-requires-clause-room c =
     (row-taken plan c.args.unit x g c.args.tick c.args.inputs.now c.requires.tick c.requires.inputs))
 
 pub show-requires-clause-sound : goal.show-requires-clause-sound
-show-requires-clause-sound c =
-    let plan = c.args.plan.now in
-    let x = c.unit-giver.result.now in
-    let g = c.unit-giver.ensures in
-    g.sound.sound
+show-requires-clause-sound c = c.unit-giver.ensures.sound.sound
 
 pub step-requires-clause-sound : goal.step-requires-clause-sound
-step-requires-clause-sound c =
-    let plan = c.args.plan.now in
-    let x = c.unit-giver.result.now in
-    let g = c.unit-giver.ensures in
-    g.sound.sound
+step-requires-clause-sound c = c.unit-giver.ensures.sound.sound
 
 pub show-requires-clause-states : goal.show-requires-clause-states
 show-requires-clause-states c =
-    let plan = c.args.plan.now in
-    let x = c.unit-giver.result.now in
-    let g = c.unit-giver.ensures in
-    states-inside plan c.args.unit x g c.args.inputs.now c.args.outputs.now c.args.tick c.requires.renewed
+    states-inside c.args.plan.now c.args.unit _ c.unit-giver.ensures c.args.inputs.now c.args.outputs.now c.args.tick
+    c.requires.renewed
 
 pub step-requires-clause-states : goal.step-requires-clause-states
 step-requires-clause-states c =
@@ -72,23 +80,13 @@ step-requires-clause-states c =
 
 pub show-requires-clause-inputs : goal.show-requires-clause-inputs
 show-requires-clause-inputs c =
-    let plan = c.args.plan.now in
-    let x = c.unit-giver.result.now in
-    let g = c.unit-giver.ensures in
-    let tubes = c.args.inputs.now in
-    let bands = c.gather_at-count.ensures.bands ∙ ap (λ (ts : List Tube). row_of ts c.args.tick) c.as_slice.ensures in
-    let taken = row-taken plan c.args.unit x g c.args.tick tubes c.requires.tick c.requires.inputs in
-    λ instant. subst (MayTake x) (sym bands) taken
+    λ instant. gathered-taken c.args.plan.now c.args.unit _ c.unit-giver.ensures c.args.tick c.as_slice.ensures
+    c.gather_at-count.ensures.bands c.requires.tick c.requires.inputs
 
 pub step-requires-clause-inputs : goal.step-requires-clause-inputs
 step-requires-clause-inputs c =
-    let plan = c.args.plan.now in
-    let x = c.unit-giver.result.now in
-    let g = c.unit-giver.ensures in
-    let tubes = c.args.inputs.now in
-    let bands = c.gather_at-count.ensures.bands ∙ ap (λ (ts : List Tube). row_of ts c.args.tick) c.as_slice.ensures in
-    let taken = row-taken plan c.args.unit x g c.args.tick tubes c.requires.tick c.requires.inputs in
-    subst (MayTake x) (sym bands) taken
+    gathered-taken c.args.plan.now c.args.unit _ c.unit-giver.ensures c.args.tick c.as_slice.ensures
+    c.gather_at-count.ensures.bands c.requires.tick c.requires.inputs
 
 pub show-requires-clause-room : goal.show-requires-clause-room
 show-requires-clause-room c =
@@ -100,27 +98,12 @@ show-requires-clause-room c =
 
 pub step-requires-clause-tick : goal.step-requires-clause-tick
 step-requires-clause-tick c =
-    let plan = c.args.plan.now in
-    let x = c.unit-giver.result.now in
-    let g = c.unit-giver.ensures in
-    omega (
-      arith,
-      ap (λ (made : RenewalOf). length made.states) c.show.ensures,
-      states-counted plan c.args.unit x g c.args.outputs.now c.requires.renewed.shape,
-      c.requires.tick,
-    )
+    omega (arith, still-counted _ _ _ c.unit-giver.ensures _ _ c.show.ensures c.requires.renewed.shape, c.requires.tick)
 
 pub step-requires-clause-few : goal.step-requires-clause-few
 step-requires-clause-few c =
-    let plan = c.args.plan.now in
-    let x = c.unit-giver.result.now in
     let g = c.unit-giver.ensures in
-    omega (
-      arith,
-      ap (λ (made : RenewalOf). length made.states) c.show.ensures,
-      states-counted plan c.args.unit x g c.args.outputs.now c.requires.renewed.shape,
-      g.plan_is.few,
-    )
+    omega (arith, still-counted _ _ _ g _ _ c.show.ensures c.requires.renewed.shape, g.plan_is.few)
 
 pub step-requires-clause-next : goal.step-requires-clause-next
 step-requires-clause-next c =
@@ -133,10 +116,7 @@ step-requires-clause-next c =
 
 pub step-requires-clause-room : goal.step-requires-clause-room
 step-requires-clause-room c =
-    let plan = c.args.plan.now in
-    let x = c.unit-giver.result.now in
-    let g = c.unit-giver.ensures in
-    c.requires.room ∙ ap length (state-limits-are plan c.args.unit x g)
+    c.requires.room ∙ ap length (state-limits-are c.args.plan.now c.args.unit _ c.unit-giver.ensures)
 
 pub returns : goal.returns
 returns c =
