@@ -7,6 +7,7 @@ use std::rt::Files;
 
 /// A file as a sink. It is made, or emptied, at the first write. It tells no bytes, and counts a fault for each piece that it does not
 /// take whole, and for each write at which it could not be made.
+#[derive(Drop)]
 pub struct FileSink<'a, R: Files> {
     files: &'a R,
     name: &'a str,

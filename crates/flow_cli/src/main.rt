@@ -9,27 +9,47 @@ mod words;
 use file_sink::FileSink;
 use flow_edge::{NoSource, NullSink, OpenGate, Sink, Status, Word};
 use flow_top::{files, flow_top, memory_line};
+use std::alloc::Global;
 use std::process::ExitCode;
+use std::rt::Files;
 use std::str;
+use std::thread::Threads;
 use stream_sink::{ErrSink, OutSink};
 use stream_source::InSource;
 use words::words;
 
+/// The standard streams.
+#[derive(Drop)]
+struct Streams {
+    plant: InSource,
+    out: OutSink,
+    err: ErrSink,
+}
+
 fn main(rt: HostRuntime) -> ExitCode {
     let alloc = rt.alloc();
-    let mut err = ErrSink::new(rt.stderr());
+    let mut streams = Streams {
+        plant: InSource::new(rt.stdin()),
+        out: OutSink::new(rt.stdout()),
+        err: ErrSink::new(rt.stderr()),
+    };
     let status = match words(&rt, alloc) {
-        Ok(words) => with_trace(&rt, &words, &mut err),
-        Err(_) => say_memory(&mut err),
+        Ok(words) => with_trace(&rt, alloc, &words, &mut streams),
+        Err(_) => say_memory(&mut streams.err),
     };
     ExitCode::from(status.code())
 }
 
 /// Does what the words ask for, with the file that they name for the trace, where they name one.
-fn with_trace(rt: &HostRuntime, words: &[Word], err: &mut ErrSink) -> Status {
+fn with_trace<R: Threads + Sync + Files>(
+    rt: &R,
+    alloc: Global,
+    words: &[Word],
+    streams: &mut Streams,
+) -> Status {
     match named(words, files(words).trace) {
-        Some(name) => with_streams(rt, words, &mut FileSink::new(rt, name), err),
-        None => with_streams(rt, words, &mut NullSink, err),
+        Some(name) => with_streams(rt, alloc, words, &mut FileSink::new(rt, name), streams),
+        None => with_streams(rt, alloc, words, &mut NullSink, streams),
     }
 }
 
@@ -41,23 +61,22 @@ fn named(words: &[Word], at: Option<u32>) -> Option<&str> {
 }
 
 /// Does what the words ask for, over the standard streams.
-fn with_streams<T: Sink>(
-    rt: &HostRuntime,
+fn with_streams<R: Threads + Sync, T: Sink>(
+    rt: &R,
+    alloc: Global,
     words: &[Word],
     trace: &mut T,
-    err: &mut ErrSink,
+    streams: &mut Streams,
 ) -> Status {
-    let mut plant = InSource::new(rt.stdin());
-    let mut out = OutSink::new(rt.stdout());
     flow_top(
         rt,
-        rt.alloc(),
+        alloc,
         words,
-        &mut plant,
+        &mut streams.plant,
         &mut NoSource,
-        &mut out,
+        &mut streams.out,
         trace,
-        err,
+        &mut streams.err,
         &OpenGate,
     )
 }

@@ -1,9 +1,8 @@
 -- Each channel of a stream has a band in the interval run, and so a row.
-use Rattle.std.proofs.Common.{◌≡◌, ◌∙◌, sym, ap, subst, refl, ℕ, zero, suc, ◌+◌, ◌<◌, Bool, true, false, List, [], ◌∷◌, length, map, get_or, arith}
-use Rattle.std.specs.Prelude.{slice_index, slice_index_or}
+use Rattle.std.proofs.Common.{◌≡◌, ◌∙◌, ap, refl, ℕ, zero, suc, ◌+◌, ◌<◌, Bool, true, false, List, [], ◌∷◌, length, map, arith}
+use Rattle.std.specs.Prelude.{slice_index_or}
 use Rattle.quant.specs.declared.limits.Limits.{Limits}
 use Rattle.quant.proofs.Calls.{inside-length}
-use Rattle.flowsheet.specs.Plant as sheet
 use Rattle.flowsheet.specs.Reading.{on_bands}
 use Rattle.flowsheet.proofs.Stages.{run-fed}
 use Rattle.flowsheet.proofs.Limits.{stream-limited}
@@ -11,15 +10,13 @@ use Rattle.parts.specs.Parts.{FileParts}
 use Rattle.parts.specs.Given.{given_bands}
 use Rattle.plant_streams.specs.declared.streams.Stream.{Stream}
 use Rattle.plant_streams.specs.declared.streams.StreamSource.TheVariants as source
-use Rattle.plant_units.specs.declared.units.Unit.{Unit}
 use Rattle.plant_streams.specs.Streams.{streams_of}
-use Rattle.plant_units.specs.Units.{units_of, sheet_unit, gives_of}
 use Rattle.plant.specs.PlantOf.{plant_of, carried_of}
 use Rattle.plant_streams.specs.Limits.{channel_limits, stream_limits, source_limits}
 use Rattle.plant.specs.Rows.{streams_of_run}
 use Rattle.plant_streams.specs.Limits.{limits_at}
-use Rattle.plant.specs.Sound.{IsPlant, IsSource}
-use Rattle.plant.proofs.Lookups.{from_feed, from_port, from, item, sound-at, unit-is, outputs-are, origin-is, streams-counted}
+use Rattle.plant.specs.Sound.{IsPlant}
+use Rattle.plant.proofs.Lookups.{from_feed, from_port, from, origin-is, streams-counted}
 use Rattle.plant.proofs.PlantLaws.{plant-sound, port-limits, parts-ranked, parts-limited, parts-bands, parts-fed}
 use Rattle.tables.specs.Output.{channels}
 

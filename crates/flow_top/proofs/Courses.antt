@@ -1,8 +1,7 @@
 -- The courses of the commands.
-use Rattle.std.proofs.Common.{◌≡◌, ◌≢◌, ℕ, zero, suc, ◌+◌, ◌-◌, ◌*◌, ◌<◌, ◌≤◌, ◌++◌, min, nat_lt, refl, sym, ap, subst, ◌∙◌}
-use Rattle.std.proofs.Common.{Bool, true, false, List, [], ◌∷◌, Option, Some, None, if◌then◌else◌, arith, codes}
+use Rattle.std.proofs.Common.{◌≡◌, ◌≢◌, ℕ, zero, suc, ◌*◌, ◌<◌, ◌≤◌, ◌++◌, nat_lt, refl, sym, ap, subst, ◌∙◌}
+use Rattle.std.proofs.Common.{Bool, true, false, List, [], Option, Some, None, if◌then◌else◌, arith, codes}
 use Rattle.parts.specs.Parts.{FileParts}
-use Rattle.parts.specs.InRange.{AreInRange}
 use Rattle.plant.specs.Rows.{streams_of_run}
 use Rattle.plant.specs.Sound.{IsPlant}
 use Rattle.tables.specs.Output.{header, rank_header, rows_of}
@@ -15,7 +14,7 @@ use Rattle.flow_top.specs.declared.words.Command.{Command}
 use Rattle.flow_top.specs.declared.words.Command.TheVariants.{Run, Check}
 use Rattle.flow_top.specs.Course.{Course, written, text_of}
 use Rattle.flow_top.specs.Courses.{IsCourse, IsWork}
-use Rattle.flow_top.specs.RunCourse.{all_rows, window_rows, traced_in, ticks_in, asks_for_widths, not_built, RunsUnless, RunsWhole, StopsAtOnce, IsWindowCount}
+use Rattle.flow_top.specs.RunCourse.{all_rows, window_rows, traced_in, ticks_in, asks_for_widths, not_built, RunsUnless, RunsWhole, StopsAtOnce}
 use Rattle.flow_top.specs.CheckCourse.{IsCheckCourse}
 use Rattle.report.specs.Output.{labels_of}
 use Rattle.report.specs.Ranks.{rank_rows}

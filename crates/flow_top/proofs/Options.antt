@@ -1,5 +1,5 @@
 -- The options of `run`, by how many words there are.
-use Rattle.std.proofs.Common.{◌≡◌, ◌∙◌, ◌+◌, ◌<◌, ◌≤◌, ◌==◌, ◌&&◌, ℕ, Bool, true, false, List, [], ◌∷◌, Some, None, Result, Ok, Err, length, slice_index_or, not, nat_eq, codes, bytes_eq, refl, sym, ap, arith}
+use Rattle.std.proofs.Common.{◌≡◌, ◌∙◌, ◌<◌, ◌≤◌, ◌==◌, ◌&&◌, ℕ, Bool, true, false, List, [], ◌∷◌, Some, None, Ok, Err, length, slice_index_or, not, codes, bytes_eq, refl, sym, ap, arith}
 use Rattle.flow_top.specs.declared.words.Command.TheVariants.{Run}
 use Rattle.flow_top.specs.declared.words.Request.{Request}
 use Rattle.flow_top.specs.Words.{takes, options_in}

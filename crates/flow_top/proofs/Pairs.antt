@@ -1,5 +1,5 @@
 -- What stands after rows for the output and steps for the trace were written in turn.
-use Rattle.std.proofs.Common.{◌≡◌, ◌≢◌, ◌∙◌, refl, sym, ap, subst, ℕ, zero, suc, ◌<◌, ◌≤◌, List, [], ◌++◌, Option, Some, None, ◌⊎◌, inl, inr}
+use Rattle.std.proofs.Common.{◌≡◌, ◌≢◌, ◌∙◌, refl, sym, ap, subst, ℕ, zero, suc, ◌<◌, ◌≤◌, List, [], ◌++◌, Some, ◌⊎◌, inl, inr}
 use Rattle.std.proofs.Common.{Result, Ok, Err, IsErrAnd, arith, append_assoc, append-nil}
 use Rattle.std.proofs.lemmas.Bool.{cases_lt}
 use Rattle.flow_edge.specs.Faults.{Rose}

@@ -1,15 +1,10 @@
 -- The rows of some ticks, from the bands at these.
 use Rattle.std.proofs.Common.{◌≡◌, ℕ, zero, suc, ◌+◌, ◌<◌, List, [], ◌∷◌, ◌++◌, length, refl, sym, ap, ◌∙◌, append_assoc}
-use Rattle.std.proofs.Common.{append-nil, add-one, flat_map, arith}
+use Rattle.std.proofs.Common.{append-nil, flat_map, arith}
 use Rattle.std.specs.List.{range_with_len}
-use Rattle.std.proofs.lemmas.List.{length-map}
 use Rattle.quant.specs.Interval.{Interval}
-use Rattle.parts.specs.Parts.{FileParts}
 use Rattle.plant_streams.specs.declared.streams.Stream.{Stream}
-use Rattle.plant_streams.specs.Streams.{streams_of}
-use Rattle.plant.specs.Rows.{streams_of_run}
 use Rattle.tables.specs.Output.{Label, rows_of, rows_from, stream_rows, tick_rows}
-use Rattle.report.specs.Output.{labels_of}
 
 abbrev pub label_of : Stream → Label
 label_of stream = record { name = stream.name; signal = stream.signal }

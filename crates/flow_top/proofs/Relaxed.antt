@@ -1,5 +1,5 @@
 -- The texts of a run's one window, from what was relaxed.
-use Rattle.std.proofs.Common.{◌≡◌, ◌∙◌, ℕ, ◌+◌, ◌-◌, ◌<◌, ◌≤◌, List, [], length, map, slice_index_or, None, Result, Ok, Err, IfOk, refl, sym, ap, subst, arith}
+use Rattle.std.proofs.Common.{◌≡◌, ◌∙◌, ℕ, ◌+◌, ◌-◌, ◌<◌, ◌≤◌, List, [], length, map, slice_index_or, None, Result, Ok, Err, IfOk, sym, ap, subst, arith}
 use Rattle.std.specs.List.{range_with_len}
 use Rattle.std.proofs.lemmas.List.{length-map}
 use Rattle.std.proofs.lemmas.List.FromFn.{get_or-map-range_with_len}
@@ -17,7 +17,7 @@ use Rattle.relax_core.specs.Settled.{WindowOf, IsWindow, Settles, window_on}
 use Rattle.feeds.specs.Given.{run_plan, given_tubes}
 use Rattle.report.specs.Output.{labels_of, bands_in, output_rows}
 use Rattle.report.specs.Trace.{names_of, trace_rows}
-use Rattle.flow_top.specs.RunCourse.{not_built, first_tick, ticks_in, window_rows}
+use Rattle.flow_top.specs.RunCourse.{not_built, first_tick, ticks_in}
 use Rattle.flow_top.specs.Steps.{IsRelaxed, AreTexts}
 use Rattle.flow_top.proofs.Courses.{one-window, first-window}
 use Rattle.flow_top.proofs.PlantRows.{label_of, rows-same}

@@ -1,5 +1,5 @@
 -- The windows of a run together are the run.
-use Rattle.std.proofs.Common.{◌≡◌, ℕ, zero, suc, ◌+◌, ◌-◌, ◌*◌, ◌<◌, ◌≤◌, min, List, [], ◌∷◌, ◌++◌, refl, sym, ap, ◌∙◌, append_assoc}
+use Rattle.std.proofs.Common.{◌≡◌, ℕ, zero, suc, ◌+◌, ◌-◌, ◌*◌, ◌<◌, ◌≤◌, min, List, ◌++◌, sym, ap, ◌∙◌, append_assoc}
 use Rattle.std.proofs.Common.{arith, append-nil, ◌⊎◌, inl, inr, Option, Some, None}
 use Rattle.quant.specs.Interval.{Interval}
 use Rattle.parts.specs.Parts.{FileParts}

@@ -1,5 +1,5 @@
 -- How a run in one window ends, from what its two pairs of texts gave.
-use Rattle.std.proofs.Common.{◌≡◌, ◌≢◌, ◌∙◌, refl, sym, ap, subst, ◌<◌, ℕ, List, [], ◌++◌, None, Result, Ok, Err, IsErrAnd, arith}
+use Rattle.std.proofs.Common.{◌≡◌, refl, sym, ap, subst, ℕ, List, None, Result, Ok, Err, IsErrAnd, arith}
 use Rattle.parts.specs.Parts.{FileParts}
 use Rattle.plant.specs.Sound.{IsPlant}
 use Rattle.tables.specs.Output.{header}
@@ -11,7 +11,7 @@ use Rattle.flow_top.specs.declared.fault.Stop.{Stop}
 use Rattle.flow_top.specs.declared.fault.End.{End}
 use Rattle.flow_top.specs.declared.fault.End.TheVariants.{Stopped, NoMemory}
 use Rattle.flow_top.specs.Faults.{stop_by}
-use Rattle.flow_top.specs.Course.{Course, text_of}
+use Rattle.flow_top.specs.Course.{Course}
 use Rattle.flow_top.specs.RunCourse.{not_built, window_rows, traced_in}
 use Rattle.flow_top.specs.Uses.{Sinks}
 use Rattle.flow_top.specs.Ended.{WorkEnded, through, broken, within, Stood, BrokeOff}

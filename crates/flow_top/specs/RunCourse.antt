@@ -1,5 +1,5 @@
 -- The course of `run`: the rows of the interval run of a plant, window by window, with a trace of the steps that settled each.
-use Rattle.std.specs.Prelude.{◌≡◌, ℕ, ◌*◌, ◌-◌, ◌<◌, ◌≤◌, ◌||◌, nat_lt, min, Bool, List, [], map, codes, Option, Some, None, is_some}
+use Rattle.std.specs.Prelude.{◌≡◌, ℕ, ◌*◌, ◌-◌, ◌<◌, ◌≤◌, ◌||◌, nat_lt, min, Bool, List, [], codes, Option, Some, None, is_some}
 use Rattle.std.specs.Prelude.{if◌then◌else◌}
 use Rattle.parts.specs.Parts.{FileParts}
 use Rattle.parts.specs.declared.parts.Widths.{Widths}

@@ -1,4 +1,4 @@
-use Rattle.std.proofs.Common.{◌∙◌, ◌<◌, ℕ, map, length, sym, subst}
+use Rattle.std.proofs.Common.{◌∙◌, ◌<◌, ℕ, map, sym, subst}
 use Rattle.plant.proofs.Lookups.{streams-counted}
 use Rattle.renewal.specs.Plan.{window_of}
 use Rattle.relax_core.specs.Board.{step_in}

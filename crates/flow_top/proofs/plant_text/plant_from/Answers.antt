@@ -2,7 +2,7 @@ use Rattle.std.proofs.Common.{◌≡◌, ◌∙◌, sym, ap, subst, List, ℕ, f
 use Rattle.flow_edge.specs.ReadText.{ReadText}
 use Rattle.flow_top.specs.Judged.{IsJudged}
 use Rattle.flow_top.specs.Faults.{too_long}
-use Rattle.flow_top.specs.Steps.{Finds, refusal}
+use Rattle.flow_top.specs.Steps.{refusal}
 use Rattle.report.specs.declared.fault.TopFault.TheVariants.{TooLong}
 use Rattle.flow_top.proofs.Readings.{more-refused, whole-judged, whole-left}
 use Rattle.flow_top.proofs.Causes.{judged-kind, judged-plant}

@@ -1,8 +1,6 @@
-use Rattle.std.proofs.Common.{◌≡◌, ◌∙◌, Result, Ok, Err, IfOk, sym, ap, subst, arith}
+use Rattle.std.proofs.Common.{◌∙◌, sym, ap, subst, arith}
 use Rattle.relax_core.specs.Board.{BoardOf}
-use Rattle.renewal.specs.Plan.{PlanOf, IsPlan}
-use Rattle.feeds.specs.Given.{run_plan}
-use Rattle.flow_top.specs.Steps.{IsRelaxed}
+use Rattle.renewal.specs.Plan.{IsPlan}
 use Rattle.flow_top.proofs.Relaxed.{plan-is, left-is}
 use Rattle.flow_top.proofs.run.relaxed.Goals as goal
 

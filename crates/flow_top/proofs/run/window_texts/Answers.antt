@@ -1,4 +1,4 @@
-use Rattle.std.proofs.Common.{◌≡◌, ◌∙◌, ℕ, ap, sym, subst, arith, ◌≤◌}
+use Rattle.std.proofs.Common.{◌∙◌, ℕ, ap, subst, arith}
 use Rattle.parts.specs.Parts.{FileParts}
 use Rattle.flow_top.specs.Steps.{IsRelaxed}
 use Rattle.flow_top.proofs.Relaxed.{run-few, texts-are}
