@@ -5,7 +5,8 @@ use Rattle.report.specs.declared.fault.TopFault.{TopFault}
 use Rattle.report.specs.declared.fault.TopFault.TheVariants.{Words, TooLong, NotToml, Format, Missing, WrongType, UnknownKey}
 use Rattle.report.specs.declared.fault.TopFault.TheVariants.{OutOfRange, BadName, Twice, NoSource, WrongPort, TooMany}
 use Rattle.report.specs.declared.fault.TopFault.TheVariants.{BadLimits, StartOutside, FeedPieces, FeedOutside, TableFalls}
-use Rattle.report.specs.declared.fault.TopFault.TheVariants.{ColumnTooFast, InstantLoop, TooDeep, NotBuilt, ReadPlant, WriteOut, WriteTrace}
+use Rattle.report.specs.declared.fault.TopFault.TheVariants.{ColumnTooFast, InstantLoop, TooDeep, BadRecord, UnknownPlace, Order, Outside, FeedTooLong, Wide}
+use Rattle.report.specs.declared.fault.TopFault.TheVariants.{NotBuilt, ReadPlant, ReadExtra, WriteOut, WriteTrace}
 
 -- what a line says
 unfoldable pub fault_words : TopFault → List ℕ
@@ -30,8 +31,17 @@ fault_words (TableFalls place) = codes "P17 table falls " ++ place
 fault_words (ColumnTooFast unit) = codes "P18 column too fast " ++ unit
 fault_words (InstantLoop unit) = codes "P19 instant loop " ++ unit
 fault_words (TooDeep unit) = codes "P20 too deep " ++ unit
+fault_words (BadRecord at) = codes "F1 bad record " ++ decimal at
+fault_words (UnknownPlace at) = codes "F2 unknown place at record " ++ decimal at
+fault_words (Order at) = codes "F3 order at record " ++ decimal at
+fault_words (Outside at) = codes "F4 outside at record " ++ decimal at
+fault_words (FeedTooLong at) = codes "F5 too long at record " ++ decimal at
+fault_words (Wide stream channel tick width limit) =
+    (codes "wide stream " ++ stream) ++ (codes " channel " ++ channel) ++ (codes " tick " ++ decimal tick)
+    ++ (codes " width " ++ signed_decimal width) ++ (codes " limit " ++ signed_decimal limit)
 fault_words (NotBuilt place) = codes "P0 not built yet " ++ place
 fault_words ReadPlant = codes "read fault on plant"
+fault_words ReadExtra = codes "read fault on extra"
 fault_words WriteOut = codes "write fault on out"
 fault_words WriteTrace = codes "write fault on trace"
 
@@ -46,30 +56,12 @@ fault_line fault = line_of (fault_words fault)
 unfoldable pub memory_line : List ℕ
 memory_line = codes "flowrelax: want of memory\n"
 
--- the lines of failed devices are the same each time, and take no memory
+-- the lines with no place, name or number are the same each time, and take no memory
 abbrev pub constant_line : TopFault → Option (List ℕ)
-constant_line (Words at) = None
-constant_line TooLong = None
-constant_line NotToml = None
-constant_line (Format found) = None
-constant_line (Missing place) = None
-constant_line (WrongType place) = None
-constant_line (UnknownKey place) = None
-constant_line (OutOfRange place) = None
-constant_line (BadName place) = None
-constant_line (Twice name) = None
-constant_line (NoSource place) = None
-constant_line (WrongPort place) = None
-constant_line (TooMany place) = None
-constant_line (BadLimits place) = None
-constant_line (StartOutside place) = None
-constant_line (FeedPieces place) = None
-constant_line (FeedOutside place) = None
-constant_line (TableFalls place) = None
-constant_line (ColumnTooFast unit) = None
-constant_line (InstantLoop unit) = None
-constant_line (TooDeep unit) = None
-constant_line (NotBuilt place) = None
+constant_line TooLong = Some (fault_line TooLong)
+constant_line NotToml = Some (fault_line NotToml)
 constant_line ReadPlant = Some (fault_line ReadPlant)
+constant_line ReadExtra = Some (fault_line ReadExtra)
 constant_line WriteOut = Some (fault_line WriteOut)
 constant_line WriteTrace = Some (fault_line WriteTrace)
+constant_line fault = None

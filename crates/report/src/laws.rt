@@ -1,4 +1,5 @@
-ghost use Rattle.std.specs.Prelude.{◌≡◌, ℕ, ◌<◌, ◌++◌, List};
+ghost use Rattle.std.specs.Prelude.{◌≡◌, ℕ, ◌<◌, ◌++◌, ◌∷◌, List};
+ghost use Rattle.std.specs.List.{AllByRecursion};
 ghost use Rattle.relaxation.specs.Window.{Window};
 ghost use Rattle.relax_core.specs.Board.{RowOf};
 ghost use Rattle.relax_core.specs.Settled.{Settles};
@@ -10,4 +11,10 @@ pub fn traces_settle_their_windows()
         (w : ℕ) → w < k →
         (before : List ℕ) × (rows : List RowOf) × (after : List ℕ) × Settles (window w) rows
         × (text ≡ before ++ (trace_rows names w rows ++ after)) }
+{}
+
+/// The first of the rows that settle a window reads opening tubes alone, so no rows stand on one another in a circle.
+pub fn first_rows_read_opening_tubes()
+    ensures { (window : Window) (row : RowOf) (rows : List RowOf) → Settles window (row ∷ rows) →
+        AllByRecursion (λ k. k ≡ 0) row.refs }
 {}
