@@ -3,17 +3,21 @@ use Rattle.std.proofs.Common.{◌≡◌, ◌∙◌, ℕ, ◌-◌, ◌<◌, List,
 use Rattle.std.specs.List.{range_with_len, AllByRecursion}
 use Rattle.std.proofs.lemmas.List.{ext_get_or, length-map}
 use Rattle.std.proofs.lemmas.List.FromFn.{get_or-map-range_with_len, length-map-range_with_len}
-use Rattle.relaxation.specs.Tube.{IsWithin}
+use Rattle.quant.proofs.Calls.{inside-length}
+use Rattle.relaxation.specs.Tube.{Tube, IsWithin, at}
 use Rattle.relaxation.specs.Window.{Window, run_tube}
 use Rattle.relaxation.specs.Core.{Versions, Step, versions_of, last_of, after_step, AreLegal, IsQuiet}
+use Rattle.relaxation.proofs.Ticks.{within-at}
 use Rattle.relaxation.proofs.States.{version-holds}
 use Rattle.relaxation.proofs.Quiet.{quiet-run}
 use Rattle.plant.proofs.Lookups.{streams-counted}
 use Rattle.plant_streams.specs.Streams.{streams_of}
+use Rattle.plant_streams.specs.Limits.{limits_at}
 use Rattle.renewal.specs.Plan.{window_of}
+use Rattle.renewal.proofs.Openings.{opening-limited}
 use Rattle.relax_core.specs.Board.{RowOf, BoardOf, IsBoard, rows_from, steps_in, opened}
 use Rattle.relax_core.specs.Settled.{window_on, IsWindow}
-use Rattle.relax_core.proofs.Boards.{board-open, board-kept, streams-there, stream-below, some-version}
+use Rattle.relax_core.proofs.Boards.{board-open, board-kept, streams-there, stream-below, some-version, versions-within}
 use Rattle.relax_core.proofs.Readings.{within-shape}
 
 -- the rows of legal steps name streams of the window's plant
@@ -43,11 +47,21 @@ module _ (board : BoardOf) (is : IsBoard board) where
       ∙ length-map (run_tube window s) length
       ∙ length-map-range_with_len _ 0 board.plan.ticks
 
+  last-channels : (s t : ℕ) → s < length (streams_of board.plan.parts) → t < board.plan.ticks →
+      length (at (last_of board.versions s) t) ≡ length (limits_at board.plan.parts s)
+  last-channels s t l m =
+      let opening = window.opening s in
+      inside-length (at (last_of board.versions s) t) (at opening t)
+      (within-at (last_of board.versions s) opening t
+      (versions-within board is s (length (versions_of board.versions s) - 1) l (omega (arith, some-version board is s l))))
+      ∙ inside-length (at opening t) (limits_at board.plan.parts s) (opening-limited board.plan is.plan s t l m)
+
   pub leaves-window : IsWindow board.plan.parts (window_on board)
   leaves-window = record {
     inside = is.plan.inside;
     streams = length-map-range_with_len (last_of board.versions) 0 (length board.versions) ∙ streams-there board is;
     ticked = λ s l. ap length (last-is s l) ∙ last-ticks s l;
+    channels = λ s t l m. ap (λ (tube : Tube). length (at tube t)) (last-is s l) ∙ last-channels s t l m;
     rows =
         subst (λ (rows : List RowOf). AllByRecursion (λ (row : RowOf). row.stream < length (streams_of board.plan.parts)) rows) (sym is.numbered)
         (subst (λ n. AllByRecursion (λ (row : RowOf). row.stream < n) (rows_from window (opened board.plan) (steps_in board)))

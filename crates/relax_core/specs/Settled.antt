@@ -1,11 +1,12 @@
 -- A settled window: the tubes that its streams were narrowed to, and the rows of the steps that narrowed them.
 use Rattle.std.specs.Prelude.{◌≡◌, ◌+◌, ◌<◌, ◌≤◌, ℕ, List, [], length, map, slice_index_or}
 use Rattle.std.specs.List.{range_with_len, AllByRecursion}
-use Rattle.relaxation.specs.Tube.{Tube}
+use Rattle.relaxation.specs.Tube.{Tube, at}
 use Rattle.relaxation.specs.Window.{Window}
 use Rattle.relaxation.specs.Core.{opening_versions, last_of, reached, AreLegal, AreNarrowing, IsQuiet}
 use Rattle.parts.specs.Parts.{FileParts}
 use Rattle.plant_streams.specs.Streams.{streams_of}
+use Rattle.plant_streams.specs.Limits.{limits_at}
 use Rattle.relax_core.specs.Board.{RowOf, BoardOf, step_in, rows_from}
 
 pub record WindowOf : Type 0 where
@@ -33,9 +34,11 @@ pub record Settles (window : Window) (rows : List RowOf) : Type 0 where
   pub numbered : rows ≡ rows_from window (opening_versions window) (map step_in rows)
   pub quiet : IsQuiet window (reached window (map step_in rows))
 
--- The ticks are the plant's, each stream has a tube of them, and each row names a stream.
+-- The ticks are the plant's, each stream has a tube of them with a band for each of its channels, and each row names a stream.
 pub record IsWindow (parts : FileParts) (window : WindowOf) : Type 0 where
   pub inside : window.first + window.ticks ≤ parts.ticks
   pub streams : length window.tubes ≡ length (streams_of parts)
   pub ticked : (s : ℕ) → s < length (streams_of parts) → length (slice_index_or window.tubes s []) ≡ window.ticks
+  pub channels : (s t : ℕ) → s < length (streams_of parts) → t < window.ticks →
+      length (at (slice_index_or window.tubes s []) t) ≡ length (limits_at parts s)
   pub rows : AllByRecursion (λ row. row.stream < length (streams_of parts)) window.steps

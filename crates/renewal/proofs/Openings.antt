@@ -57,7 +57,7 @@ opening-port plan u p s h out =
 
 module _ (plan : PlanOf) (h : IsPlan plan) where
   -- it lies in the limits of the stream's channels, and has a row for each tick
-  opening-limited : (s t : ℕ) → s < length (streams_of plan.parts) → t < plan.ticks →
+  pub opening-limited : (s t : ℕ) → s < length (streams_of plan.parts) → t < plan.ticks →
       AllInside (at ((window_of plan).opening s) t) (limits_at plan.parts s)
   opening-limited s t l m = elim (from plan.parts s (plant-sound plan.parts h.plant) l) [
     | from_feed f e k ↦
