@@ -23,12 +23,12 @@ use Rattle.flow_top.specs.Faults as faults
 use Rattle.flow_top.specs.Judged.{Judgement, IsJudged, too_long, unreadable, unbuilt, built}
 use Rattle.flow_top.specs.Course.{Course}
 use Rattle.flow_top.specs.Courses.{IsWork}
-use Rattle.report.specs.Lines.{fault_line, constant_line}
-use Rattle.flow_top.specs.Uses.{SourceUse, SinkUse, Sinks, IsUnwritten, AreUnwritten, WasGiven}
+use Rattle.report.specs.Lines.{fault_line, constant_line, memory_line}
+use Rattle.flow_top.specs.Uses.{SourceUse, SinkUse, Sinks, IsUnwritten, AreUnwritten, WasGiven, Broke}
 use Rattle.flow_top.specs.Ended.{Ended, misread, asked, CommandEnded, WorkEnded, course_end, SaysParts, IsRefused, TraceStood, Stood, BrokeOff}
 use Rattle.flow_top.specs.Ended as ended
 use Rattle.flow_top.specs.Stands.{Said, SaidMemory, SaidStop}
-use Rattle.flow_top.specs.Causes.{IsEndOn, refusal, course, IsAtWork, WroteSome, WroteFront, WroteNoMore, SaysStop, Cause, AnswersOr, AnswersUnlessRead}
+use Rattle.flow_top.specs.Causes.{IsEndOn, refusal, course, IsAtWork, WroteSome, WroteFront, SaysStop, CauseSaid, Cause, AnswersOr, AnswersUnlessRead}
 use Rattle.flow_top.proofs.Judging.{judgement-unique}
 use Rattle.flow_top.proofs.Courses.{courses-agree, course-stops, work-exists}
 
@@ -113,19 +113,19 @@ trace_status Check = refl
 broken_status : (command : Command) (course : Course) (sinks : Sinks) (fault : TopFault) → BrokeOff course sinks fault →
     status_of command fault ≡ status.WriteFault
 broken_status command c sinks fault (ended.output broke trace) = write_status command
-broken_status command c sinks fault (ended.trace front trace rose) = trace_status command
+broken_status command c sinks fault (ended.trace traced some front trace rose) = trace_status command
 
 -- the line of a failed sink is constant
 broken_line : (course : Course) (sinks : Sinks) (fault : TopFault) → BrokeOff course sinks fault →
     constant_line fault ≡ None → ⊥
 broken_line c sinks fault (ended.output broke trace) none = cc none
-broken_line c sinks fault (ended.trace front trace rose) none = cc none
+broken_line c sinks fault (ended.trace traced some front trace rose) none = cc none
 
 -- a sink that failed was counted
 broken_rose : (course : Course) (sinks : Sinks) (fault : TopFault) → BrokeOff course sinks fault →
     ¬ Rose sinks.out.before sinks.out.now → ¬ Rose sinks.trace.before sinks.trace.now → ⊥
 broken_rose c sinks fault (ended.output broke trace) o t = o broke.fault
-broken_rose c sinks fault (ended.trace front trace rose) o t = t rose
+broken_rose c sinks fault (ended.trace traced some front trace rose) o t = t rose
 
 -- a fact of a text that is told holds at that text
 at_text : (o : Option (List ℕ)) (bytes : List ℕ) (P : List ℕ → Type 0) → o ≡ Some bytes → IfSome o P → P bytes
@@ -174,24 +174,36 @@ memory_alone err result (inl s) r = inr s.1
 memory_alone err result (inr s) r = absurd (r s.0.fault)
 
 module _ (words : List (List ℕ)) (plant : SourceUse) (sinks : Sinks) (err : SinkUse) (result : Status) where
-  no_more : AreUnwritten sinks ⊎ WroteSome words plant sinks → WroteNoMore words plant sinks
-  no_more (inl u) = inl u
-  no_more (inr w) = inr (inl w)
+  -- what is said of a status in its line is its cause
+  as_cause : (own : Status) → CauseSaid own words plant sinks err → Cause own words plant sinks err
+  as_cause status.Done h = h
+  as_cause status.Words h = h
+  as_cause status.Refused h = h
+  as_cause status.Wide h = h
+  as_cause status.ReadFault h = h
+  as_cause status.WriteFault h = inl h
+  as_cause status.NoMemory h = h
+  as_cause status.No h = h
+
+  -- the cause where the errors failed in the midst of a line
+  unheard : (own : Status) (line : List ℕ) → Broke err line → result ≡ status.WriteFault →
+      ((to : SinkUse) → WasGiven to line → CauseSaid own words plant sinks to) → Cause result words plant sinks err
+  unheard own line broke e said =
+      subst (λ r. Cause r words plant sinks err) (sym e) (inr (record { own = own; line = line; broke = broke; instead = said }))
 
   -- the cause of what is answered where memory runs out
   by_memory : SaidMemory err result → AreUnwritten sinks ⊎ WroteSome words plant sinks → Cause result words plant sinks err
   by_memory (inl s) stood = subst (λ r. Cause r words plant sinks err) (sym s.1) (record { line = s.0; output = stood })
-  by_memory (inr s) stood =
-      subst (λ r. Cause r words plant sinks err) (sym s.1) (inr (record { fault = s.0.fault; output = no_more stood }))
+  by_memory (inr s) stood = unheard status.NoMemory memory_line s.0 s.1 (λ to g. record { line = g; output = stood })
 
   -- the cause of what is answered at a stop
-  by_stop : (stop : Stop) → SaidStop stop err result → WroteNoMore words plant sinks →
-      (WasGiven err (fault_line stop.fault) → Cause stop.status words plant sinks err) →
+  by_stop : (stop : Stop) → SaidStop stop err result →
+      ((to : SinkUse) → WasGiven to (fault_line stop.fault) → CauseSaid stop.status words plant sinks to) →
       (constant_line stop.fault ≡ None → AreUnwritten sinks ⊎ WroteSome words plant sinks) → Cause result words plant sinks err
-  by_stop stop (inl (inl s)) more own stood = subst (λ r. Cause r words plant sinks err) (sym s.1) (own s.0)
-  by_stop stop (inl (inr s)) more own stood =
-      subst (λ r. Cause r words plant sinks err) (sym s.1) (inr (record { fault = s.0.fault; output = more }))
-  by_stop stop (inr s) more own stood = by_memory s.1 (stood s.0)
+  by_stop stop (inl (inl s)) own stood =
+      subst (λ r. Cause r words plant sinks err) (sym s.1) (as_cause stop.status (own err s.0))
+  by_stop stop (inl (inr s)) own stood = unheard stop.status (fault_line stop.fault) s.0 s.1 own
+  by_stop stop (inr s) own stood = by_memory s.1 (stood s.0)
 
   -- a command at work on the plant
   abbrev at_work : (command : Command) (parts : FileParts) (c : Course) → command_in words ≡ Ok command → SaysParts plant parts →
@@ -220,7 +232,7 @@ module _ (words : List (List ℕ)) (plant : SourceUse) (sinks : Sinks) (err : Si
         trace = subst (λ t. TraceStood t c.windows sinks.trace) stops.untraced stood.trace;
       } in
       let status_is : stop.status ≡ status.Refused = sym (ap (λ (s : Stop). s.status) stops.stop_is) ∙ stops.refused in
-      by_stop stop said (inl silent) (λ g. subst (λ s. Cause s words plant sinks err) (sym status_is) (record {
+      by_stop stop said (λ to g. subst (λ s. CauseSaid s words plant sinks to) (sym status_is) (record {
         command = command;
         fault = stops.fault;
         asked = a;
@@ -228,14 +240,15 @@ module _ (words : List (List ℕ)) (plant : SourceUse) (sinks : Sinks) (err : Si
             (λ bytes. IsEndOn command bytes (Some (stop_by command stops.fault)))
             (λ bytes j. course parts c j work (ap Some stops.stop_is ∙ sym e)) says.text;
         status = stops.refused;
-        line = subst (λ (s : Stop). WasGiven err (fault_line s.fault)) (sym stops.stop_is) g;
+        line = subst (λ (s : Stop). WasGiven to (fault_line s.fault)) (sym stops.stop_is) g;
         silent = silent;
       })) (λ none. inl silent)
 
   -- what is said where the plant is refused
-  says_refusal : (own : Status) (command : Command) (fault : TopFault) → command_in words ≡ Ok command → IsRefused plant fault →
-      AreUnwritten sinks → status_of command fault ≡ own → WasGiven err (fault_line fault) → SaysStop own words plant sinks err
-  says_refusal own command fault a r o s g = record {
+  says_refusal : (own : Status) (command : Command) (fault : TopFault) (to : SinkUse) → command_in words ≡ Ok command →
+      IsRefused plant fault → AreUnwritten sinks → status_of command fault ≡ own → WasGiven to (fault_line fault) →
+      SaysStop own words plant sinks to
+  says_refusal own command fault to a r o s g = record {
     command = command;
     fault = fault;
     asked = a;
@@ -250,9 +263,9 @@ module _ (words : List (List ℕ)) (plant : SourceUse) (sinks : Sinks) (err : Si
   by_refusal : (command : Command) (fault : TopFault) → command_in words ≡ Ok command → IsRefused plant fault →
       AreUnwritten sinks → SaidStop (stop_by command fault) err result → Cause result words plant sinks err
   by_refusal command fault a r o said =
-      by_stop (stop_by command fault) said (inl o) (λ g. elim (refusal_status command fault (kind-refused fault r.kind)) [
-        | inl s ↦ subst (λ t. Cause t words plant sinks err) (sym s) (says_refusal status.Refused command fault a r o s g)
-        | inr s ↦ subst (λ t. Cause t words plant sinks err) (sym s) (says_refusal status.No command fault a r o s g)
+      by_stop (stop_by command fault) said (λ to g. elim (refusal_status command fault (kind-refused fault r.kind)) [
+        | inl s ↦ subst (λ t. CauseSaid t words plant sinks to) (sym s) (says_refusal status.Refused command fault to a r o s g)
+        | inr s ↦ subst (λ t. CauseSaid t words plant sinks to) (sym s) (says_refusal status.No command fault to a r o s g)
       ]) (λ none. inl o)
 
   -- the cause at each end of the work on a plant
@@ -263,9 +276,9 @@ module _ (words : List (List ℕ)) (plant : SourceUse) (sinks : Sinks) (err : Si
       by_course c.stop command parts c a says work stood refl (subst (λ x. Said x err result) e said)
   by_work command parts ending a says (ended.broken c fault work some broke e) said =
       let front : WroteFront fault words plant sinks = record { at = at_work command parts c a says work; broke = broke } in
-      by_stop (stop_by command fault) (subst (λ x. Said x err result) e said) (inr (inr (fault, front)))
-      (λ g. subst (λ s. Cause s words plant sinks err) (sym (broken_status command c sinks fault broke))
-      (inl (record { fault = fault; front = front; line = g })))
+      by_stop (stop_by command fault) (subst (λ x. Said x err result) e said)
+      (λ to g. subst (λ s. CauseSaid s words plant sinks to) (sym (broken_status command c sinks fault broke))
+      (record { fault = fault; front = front; line = g }))
       (λ none. absurd (broken_line c sinks fault broke none))
   by_work command parts ending a says (ended.early o e) said = by_memory (subst (λ x. Said x err result) e said) (inl o)
   by_work command parts ending a says (ended.within c k work stood less e) said =
@@ -284,8 +297,8 @@ module _ (words : List (List ℕ)) (plant : SourceUse) (sinks : Sinks) (err : Si
   by_command command ending a (ended.refused fault r o e) said =
       by_refusal command fault a r o (subst (λ x. Said x err result) e said)
   by_command command ending a (ended.failed rose o e) said =
-      by_stop (stop_by command top.ReadPlant) (subst (λ x. Said x err result) e said) (inl o)
-      (λ g. subst (λ s. Cause s words plant sinks err) (sym (read_status command)) (record { fault = rose; line = g; silent = o }))
+      by_stop (stop_by command top.ReadPlant) (subst (λ x. Said x err result) e said)
+      (λ to g. subst (λ s. CauseSaid s words plant sinks to) (sym (read_status command)) (record { fault = rose; line = g; silent = o }))
       (λ none. inl o)
   by_command command ending a (ended.starved o e) said = by_memory (subst (λ x. Said x err result) e said) (inl o)
   by_command command ending a (ended.worked parts says w) said = by_work command parts ending a says w said
@@ -294,8 +307,8 @@ module _ (words : List (List ℕ)) (plant : SourceUse) (sinks : Sinks) (err : Si
   cause : (ending : Result (Unit {0}) End) → Ended words plant sinks ending → Said ending err result →
       Cause result words plant sinks err
   cause ending (misread at w r o e) said =
-      by_stop (record { fault = top.Words at; status = status.Words }) (subst (λ x. Said x err result) e said) (inl o)
-      (λ g. record { at = at; refused = w; line = g; unread = r; silent = o }) (λ none. inl o)
+      by_stop (record { fault = top.Words at; status = status.Words }) (subst (λ x. Said x err result) e said)
+      (λ to g. record { at = at; refused = w; line = g; unread = r; silent = o }) (λ none. inl o)
   cause ending (asked command a e) said = by_command command ending a e said
 
   pub caused : (own : Status) (ending : Result (Unit {0}) End) → Ended words plant sinks ending → Said ending err result →

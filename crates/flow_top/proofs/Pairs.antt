@@ -130,7 +130,7 @@ module _ (command : Command) (course : Course) (traced : Traced) (some : course.
   )
   opened-broke sinks stop (pair.trace out trace) = (
     WriteTrace,
-    ended.trace (written-front course 0 sinks.out (omega arith) (front-whole sinks.out.had sinks.out.has course.header out))
+    ended.trace traced some (written-front course 0 sinks.out (omega arith) (front-whole sinks.out.had sinks.out.has course.header out))
         (as_front sinks.trace (0, trace_header, omega arith, legal.opening, trace.front)) trace.fault,
     refl,
   )
@@ -179,7 +179,7 @@ module _ (command : Command) (course : Course) (traced : Traced) (some : course.
     )
     went-broke stop (pair.trace out trace) = (
       WriteTrace,
-      ended.trace (written-front course (suc k) (both first.out second.out) (omega arith)
+      ended.trace traced some (written-front course (suc k) (both first.out second.out) (omega arith)
           (front-whole first.out.had second.out.has (written course (suc k))
           (gives-both first.out second.out (written course k) (course.rows k) out_next stood.output out)))
           (as_front (both first.trace second.trace) (

@@ -14,7 +14,7 @@ use Rattle.flow_top.specs.Judged.{IsJudged}
 use Rattle.flow_top.specs.Course.{Course, written, text_of}
 use Rattle.flow_top.specs.Courses.{IsWork}
 use Rattle.report.specs.Lines.{fault_line, memory_line}
-use Rattle.flow_top.specs.Uses.{SourceUse, SinkUse, Sinks, IsUntouched, IsUnwritten, AreUnwritten, WasGiven}
+use Rattle.flow_top.specs.Uses.{SourceUse, SinkUse, Sinks, IsUntouched, IsUnwritten, AreUnwritten, WasGiven, Broke}
 use Rattle.flow_top.specs.Ended.{TraceStood, BrokeOff}
 
 -- How a command ends on a text where no device fails and memory is there: by a refusal of the text; or as its course on the plant
@@ -87,30 +87,33 @@ pub record SaysWriteFault (words : List (List ℕ)) (plant : SourceUse) (sinks :
   pub front : WroteFront fault words plant sinks
   pub line : WasGiven err (fault_line fault)
 
--- what output and trace may have where no whole text was said of them: nothing, some windows, or some front
-abbrev pub WroteNoMore : List (List ℕ) → SourceUse → Sinks → Type 0
-WroteNoMore words plant sinks = AreUnwritten sinks ⊎ WroteSome words plant sinks ⊎ ((fault : TopFault) × WroteFront fault words plant sinks)
-
--- the errors failed in place of what was to be said
-pub record SaysNothing (words : List (List ℕ)) (plant : SourceUse) (sinks : Sinks) (err : SinkUse) : Type 0 where
-  pub fault : Rose err.before err.now
-  pub output : WroteNoMore words plant sinks
-
 -- memory ran out, its line was given, and in the output and the trace nothing, or the same windows
 pub record SaysMemory (words : List (List ℕ)) (plant : SourceUse) (sinks : Sinks) (err : SinkUse) : Type 0 where
   pub line : WasGiven err memory_line
   pub output : AreUnwritten sinks ⊎ WroteSome words plant sinks
 
+-- the cause of each status that is said in a line, and of done work
+abbrev pub CauseSaid : Status → List (List ℕ) → SourceUse → Sinks → SinkUse → Type 0
+CauseSaid status.Done words plant sinks err = WroteAll words plant sinks × IsUnwritten err
+CauseSaid status.Words words plant sinks err = SaysWords words plant sinks err
+CauseSaid status.Refused words plant sinks err = SaysStop status.Refused words plant sinks err
+CauseSaid status.Wide words plant sinks err = ⊥
+CauseSaid status.ReadFault words plant sinks err = SaysReadFault plant sinks err
+CauseSaid status.WriteFault words plant sinks err = SaysWriteFault words plant sinks err
+CauseSaid status.NoMemory words plant sinks err = SaysMemory words plant sinks err
+CauseSaid status.No words plant sinks err = SaysStop status.No words plant sinks err
+
+-- the errors failed in the midst of the line of another status, whose cause stands but for that line
+pub record SaysNothing (words : List (List ℕ)) (plant : SourceUse) (sinks : Sinks) (err : SinkUse) : Type 0 where
+  pub own : Status
+  pub line : List ℕ
+  pub broke : Broke err line
+  pub instead : (said : SinkUse) → WasGiven said line → CauseSaid own words plant sinks said
+
 -- the cause of each status, from what the call did to the plant source, the output, the trace and the errors
 abbrev pub Cause : Status → List (List ℕ) → SourceUse → Sinks → SinkUse → Type 0
-Cause status.Done words plant sinks err = WroteAll words plant sinks × IsUnwritten err
-Cause status.Words words plant sinks err = SaysWords words plant sinks err
-Cause status.Refused words plant sinks err = SaysStop status.Refused words plant sinks err
-Cause status.Wide words plant sinks err = ⊥
-Cause status.ReadFault words plant sinks err = SaysReadFault plant sinks err
 Cause status.WriteFault words plant sinks err = SaysWriteFault words plant sinks err ⊎ SaysNothing words plant sinks err
-Cause status.NoMemory words plant sinks err = SaysMemory words plant sinks err
-Cause status.No words plant sinks err = SaysStop status.No words plant sinks err
+Cause status words plant sinks err = CauseSaid status words plant sinks err
 
 -- its own status; or that of a write fault, where one of the error line was counted; or that of want of memory
 abbrev pub AnswersOr : Status → SinkUse → Status → Type 0

@@ -54,8 +54,9 @@ TraceFront (Some traced) n trace =
 pub data BrokeOff (course : Course) (sinks : Sinks) : TopFault → Type 0 where
   output : Broke sinks.out (text_of course) → TraceFront course.trace course.windows sinks.trace →
       BrokeOff course sinks WriteOut
-  trace : GivesFront sinks.out.had sinks.out.has (text_of course) → TraceFront course.trace course.windows sinks.trace →
-      Rose sinks.trace.before sinks.trace.now → BrokeOff course sinks WriteTrace
+  trace : (traced : Traced) → course.trace ≡ Some traced → GivesFront sinks.out.had sinks.out.has (text_of course) →
+      TraceFront course.trace course.windows sinks.trace → Rose sinks.trace.before sinks.trace.now →
+      BrokeOff course sinks WriteTrace
 
 -- how a course ends: whole, or at its stop
 abbrev pub course_end : Option Stop → Result (Unit {0}) End

@@ -42,7 +42,7 @@ pub data IsTextFault (fault : TopFault) : Type 0 where
   unreadable : (found : TextFault) → fault ≡ fault_of_text found → IsTextFault fault
   unbuilt : (found : PlantFault) → fault ≡ fault_of_plant found → IsTextFault fault
 
--- the status of a fault: a plant is refused, or a device failed
+-- the status of a fault: a text is refused, a band is too wide, or a device failed
 unfoldable pub own_status : TopFault → Status
 own_status (top.Words at) = status.Words
 own_status top.TooLong = status.Refused
@@ -65,8 +65,15 @@ own_status (top.TableFalls place) = status.Refused
 own_status (top.ColumnTooFast unit) = status.Refused
 own_status (top.InstantLoop unit) = status.Refused
 own_status (top.TooDeep unit) = status.Refused
+own_status (top.BadRecord at) = status.Refused
+own_status (top.UnknownPlace at) = status.Refused
+own_status (top.Order at) = status.Refused
+own_status (top.Outside at) = status.Refused
+own_status (top.FeedTooLong at) = status.Refused
 own_status (top.NotBuilt place) = status.Refused
+own_status (top.Wide stream channel tick width limit) = status.Wide
 own_status top.ReadPlant = status.ReadFault
+own_status top.ReadExtra = status.ReadFault
 own_status top.WriteOut = status.WriteFault
 own_status top.WriteTrace = status.WriteFault
 

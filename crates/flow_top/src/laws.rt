@@ -20,6 +20,7 @@ ghost use Rattle.relax_core.specs.Board.{RowOf, step_in};
 ghost use Rattle.relax_core.specs.Settled.{Settles};
 ghost use Rattle.flow_top.specs.RunCourse.{all_rows, traced_in, first_tick, ticks_in};
 ghost use Rattle.report.specs.Output.{labels_of};
+ghost use Rattle.report.specs.Trace.{names_of, trace_rows, IsTrace};
 ghost use Rattle.report.specs.Ranks.{rank_rows};
 ghost use Rattle.flow_top.specs.Uses.{SourceUse};
 ghost use Rattle.flow_top.specs.Causes.{IsAtWork, IsEndOn};
@@ -31,6 +32,7 @@ use flowsheet::{points_run_alone, trajectories_exist, trajectories_lie_in_the_ru
 use plant::{built_plants_are_plants, verdicts_exist};
 use relaxation::legal_steps_keep_the_run;
 use renewal::windows_are_open;
+use report::traces_settle_their_windows;
 
 /// What a command at work on a plant prints, as the clauses of `flow_top` on done work, on want of memory and on a failed output
 /// give it.
@@ -52,18 +54,18 @@ pub fn courses_print_the_run()
         length (channels (slice_index_or (map (λ stream. stream.signal) (streams_of at.parts)) s false)) }
 {}
 
-/// The bands that are printed for a plant hold each trajectory of it, at every tick that is printed, stream and channel.
-/// Where each opening band is one number, and each feed at the printed ticks, they are the trajectory's values. Each plant has
+/// The bands that are printed for a plant hold each trajectory of it over n ticks, at every one of them, stream and channel.
+/// Where each opening band is one number, and each feed at these ticks, they are the trajectory's values. Each plant has
 /// a trajectory. The law takes what the clauses of `flow_top` give of a command at work on a plant.
 pub fn printed_bands_hold_trajectories()
-    ensures holds { (words : List (List ℕ)) (plant : SourceUse) (at : IsAtWork words plant) (x y : ℕ → ℕ → List ℤ) →
-        IsTrajectory (plant_of at.parts) (carried_of at.parts) (given_bands at.parts) at.parts.ticks x y →
-        (tick s : ℕ) → tick < at.parts.ticks → s < length (streams_of at.parts) →
+    ensures holds { (words : List (List ℕ)) (plant : SourceUse) (at : IsAtWork words plant) (n : ℕ) (x y : ℕ → ℕ → List ℤ) →
+        IsTrajectory (plant_of at.parts) (carried_of at.parts) (given_bands at.parts) n x y →
+        (tick s : ℕ) → tick < n → s < length (streams_of at.parts) →
         AllHold (streams_of_run at.parts tick s) (x tick s) }
-    ensures values { (words : List (List ℕ)) (plant : SourceUse) (at : IsAtWork words plant) (x y : ℕ → ℕ → List ℤ) →
-        ArePoints (plant_of at.parts) (carried_of at.parts) (given_bands at.parts) at.parts.ticks →
-        IsTrajectory (plant_of at.parts) (carried_of at.parts) (given_bands at.parts) at.parts.ticks x y →
-        (tick s : ℕ) → tick < at.parts.ticks → s < length (streams_of at.parts) →
+    ensures values { (words : List (List ℕ)) (plant : SourceUse) (at : IsAtWork words plant) (n : ℕ) (x y : ℕ → ℕ → List ℤ) →
+        ArePoints (plant_of at.parts) (carried_of at.parts) (given_bands at.parts) n →
+        IsTrajectory (plant_of at.parts) (carried_of at.parts) (given_bands at.parts) n x y →
+        (tick s : ℕ) → tick < n → s < length (streams_of at.parts) →
         streams_of_run at.parts tick s ≡ points (x tick s) }
     ensures exists { (words : List (List ℕ)) (plant : SourceUse) (at : IsAtWork words plant) →
         (x : ℕ → ℕ → List ℤ) × (y : ℕ → ℕ → List ℤ) ×
@@ -102,7 +104,8 @@ pub fn commands_have_one_course()
 {}
 
 /// A legal trace of a run leads from the opening tubes to what is printed: whatever steps it lists for a window, the last versions
-/// that they leave are the bands of the interval run at the window's ticks. `run` writes a trace, and `check` none.
+/// that they leave are the bands of the interval run at the window's ticks, and in a legal text each window has such steps. `run`
+/// writes a trace, and `check` none.
 pub fn traces_lead_to_the_run()
     ensures run { (words : List (List ℕ)) (plant : SourceUse) (at : IsAtWork words plant) → at.command ≡ Command.Run →
         at.course.stop ≡ None → at.course.trace ≡ Some (traced_in at.parts) }
@@ -113,7 +116,15 @@ pub fn traces_lead_to_the_run()
         (rows : List RowOf) → Settles ((traced_in at.parts).window w) rows →
         last_of (reached ((traced_in at.parts).window w) (map step_in rows)) s
         ≡ tube_of (λ t. streams_of_run at.parts (first_tick at.parts w + t) s) (ticks_in at.parts w) }
+    ensures listed { (words : List (List ℕ)) (plant : SourceUse) (at : IsAtWork words plant) → at.command ≡ Command.Run →
+        at.course.stop ≡ None → (k w s : ℕ) (text : List ℕ) → k ≤ at.course.windows → w < k →
+        s < length (streams_of at.parts) → IsTrace (names_of at.parts) (traced_in at.parts).window k text →
+        (before : List ℕ) × (rows : List RowOf) × (after : List ℕ)
+        × (text ≡ before ++ (trace_rows (names_of at.parts) w rows ++ after))
+        × (last_of (reached ((traced_in at.parts).window w) (map step_in rows)) s
+        ≡ tube_of (λ t. streams_of_run at.parts (first_tick at.parts w + t) s) (ticks_in at.parts w)) }
 {
+    traces_settle_their_windows();
     windows_cut_the_run();
     windows_are_open();
     legal_steps_keep_the_run();

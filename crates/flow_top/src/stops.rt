@@ -8,14 +8,15 @@ use crate::words::Command;
 use flow_edge::Status;
 use report::TopFault;
 
-/// The status of a fault: a plant is refused, or a device failed.
+/// The status of a fault: a text is refused, a band is too wide, or a device failed.
 #[tactic(auto, unfolding(crate::specs::Faults::own_status))]
 fn own_status(fault: &TopFault) -> Status
     ensures { result ≡ own_status fault.now }
 {
     match fault {
         TopFault::Words { .. } => Status::Words,
-        TopFault::ReadPlant => Status::ReadFault,
+        TopFault::Wide { .. } => Status::Wide,
+        TopFault::ReadPlant | TopFault::ReadExtra => Status::ReadFault,
         TopFault::WriteOut | TopFault::WriteTrace => Status::WriteFault,
         _ => Status::Refused,
     }

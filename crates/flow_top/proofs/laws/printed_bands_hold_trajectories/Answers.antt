@@ -11,12 +11,12 @@ unfolding plant_of
 in-plant parts s l = subst (λ (n : ℕ). s < n) (sym (length-map (streams_of parts) (λ stream. origin_in stream.source))) l
 
 pub returns-clause-holds : goal.returns-clause-holds
-returns-clause-holds c words plant at x y trajectory tick s t l =
+returns-clause-holds c words plant at n x y trajectory tick s t l =
     c.trajectories_lie_in_the_run.ensures.streams _ _ _ _ x y
     (c.built_plants_are_plants.ensures.ranked at.parts at.work.plant) trajectory tick s t (in-plant at.parts s l)
 
 pub returns-clause-values : goal.returns-clause-values
-returns-clause-values c words plant at x y single trajectory tick s t l =
+returns-clause-values c words plant at n x y single trajectory tick s t l =
     c.points_run_alone.ensures.values _ _ _ _ x y
     (c.built_plants_are_plants.ensures.ranked at.parts at.work.plant) single trajectory tick s t (in-plant at.parts s l)
 

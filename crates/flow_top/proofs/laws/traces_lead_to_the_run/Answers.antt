@@ -1,11 +1,12 @@
-use Rattle.std.proofs.Common.{◌∙◌, ◌<◌, ℕ, map, sym, subst}
+use Rattle.std.proofs.Common.{arith, ◌∙◌, ◌<◌, ℕ, map, sym, subst}
 use Rattle.plant.proofs.Lookups.{streams-counted}
 use Rattle.renewal.specs.Plan.{window_of}
 use Rattle.relax_core.specs.Board.{step_in}
 use Rattle.feeds.specs.Given.{run_plan}
 use Rattle.flow_top.specs.declared.words.Command.{Command}
 use Rattle.flow_top.specs.Courses.{IsCourse}
-use Rattle.flow_top.specs.RunCourse.{first_tick, ticks_in}
+use Rattle.report.specs.Trace.{names_of}
+use Rattle.flow_top.specs.RunCourse.{first_tick, ticks_in, traced_in}
 use Rattle.flow_top.proofs.RunRows.{window-inside}
 use Rattle.flow_top.proofs.laws.traces_lead_to_the_run.Goals as goal
 
@@ -22,3 +23,15 @@ returns-clause-leads c words plant at run whole w s l m rows settles =
     c.legal_steps_keep_the_run.ensures.quiet (window_of (run_plan parts first n)) (map step_in rows) opens settles.legal settles.quiet s
     (subst (λ (n : ℕ). s < n) (sym (streams-counted parts)) m)
     ∙ laws.run parts first n s at.work.plant inside.0 inside.1 inside.2 m
+
+pub returns-clause-listed : goal.returns-clause-listed
+returns-clause-listed c words plant at run whole k w s text few l m legal =
+    let parts = at.parts in
+    let traced = traced_in parts in
+    let stands = c.traces_settle_their_windows.ensures (names_of parts) traced.window k text legal w l in (
+      stands.0,
+      stands.1,
+      stands.2,
+      stands.4,
+      returns-clause-leads c words plant at run whole w s (omega (arith, l, few)) m stands.1 stands.3,
+    )
