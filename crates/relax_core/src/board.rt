@@ -17,6 +17,7 @@ use crate::making::{append, first_missing};
 use crate::order::{STREAMS, flow_order};
 use crate::refs::{Refs, remembers};
 use crate::room::Room;
+use crate::sizes::unit_count;
 use crate::window::Window;
 use renewal::WindowPlan;
 use std::alloc::{AllocError, Global};
@@ -103,8 +104,8 @@ fn rooms_of(alloc: Global, plan: &WindowPlan<'_>) -> Result<Vec<Room>, AllocErro
     ensures rooms { IfOk result (λ rooms. AreNewRooms plan.now rooms.items) }
 {
     let mut rooms = Vec::new(alloc);
-    for unit in 0..plan.plant().units().len() {
-        rooms.push(Room::new(alloc, plan, unit as u32)?)?;
+    for unit in 0..unit_count(plan) {
+        rooms.push(Room::new(alloc, plan, unit)?)?;
     }
     Ok(rooms)
 }
