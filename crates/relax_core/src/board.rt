@@ -11,9 +11,9 @@ ghost use Rattle.relax_core.specs.Settled.{window_on};
 ghost use Rattle.renewal.specs.Plan.{window_of, IsPlan};
 ghost use Rattle.relax_core.specs.Stepping.{reads_for, IsOutputOf, Steps};
 
-use crate::givers::{giver, reads};
+use crate::givers::giver;
 use crate::lines::Lines;
-use crate::making::{append, first_missing};
+use crate::making::{append, missing};
 use crate::order::{STREAMS, flow_order};
 use crate::refs::{Refs, remembers};
 use crate::room::Room;
@@ -219,7 +219,7 @@ impl<'p> Board<'p> {
             return Ok(Stepped::Same);
         }
         let (unit, port) = giver(self.plan, stream);
-        if let Some(fault) = first_missing(&self.lines, reads(self.plan, unit), versions) {
+        if let Some(fault) = missing(self.plan, unit, &self.lines, versions) {
             return Err(fault);
         }
         let room = &mut self.rooms[unit as usize];

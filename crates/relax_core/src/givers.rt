@@ -2,12 +2,13 @@
 
 ghost use Rattle.std.specs.Prelude.{◌≡◌, ◌<◌, ◌≤◌, length, IfSome, IfNone};
 ghost use Rattle.std.specs.List.{AllByRecursion};
-ghost use Rattle.flowsheet.specs.Plant.{Origin, IsOrigin, port, origin_of};
+ghost use Rattle.flowsheet.specs.Plant.{Origin, IsOrigin, origin_of};
 ghost use Rattle.plant_streams.specs.Streams.{streams_of};
 ghost use Rattle.plant_units.specs.Units.{units_of};
 ghost use Rattle.plant.specs.PlantOf.{plant_of, origin_in};
 ghost use Rattle.renewal.specs.Plan.{IsPlan};
 ghost use Rattle.renewal.specs.Room.{planned};
+ghost use Rattle.relax_core.specs.Making.{IsPortOf};
 ghost use Rattle.relax_core.specs.Stepping.{IsOutputOf, reads_for};
 
 use plant::StreamSource;
@@ -28,9 +29,7 @@ pub(crate) fn giver(plan: &WindowPlan<'_>, stream: u32) -> (u32, u32)
     requires stream { stream < length (streams_of plan.now.parts) }
     requires given { IsOutputOf (origin_of (plant_of plan.now.parts) stream) }
     ensures plan { IsPlan plan.now }
-    ensures giver { origin_of (plant_of plan.now.parts) stream ≡ port result.0 result.1 }
-    ensures unit { result.0 < length (units_of plan.now.parts) }
-    ensures output { result.1 < length (planned plan.now result.0).view }
+    ensures port { IsPortOf plan.now stream result.0 result.1 }
 {
     match source_of(plan, stream) {
         StreamSource::Port { unit, port } => (unit, port),

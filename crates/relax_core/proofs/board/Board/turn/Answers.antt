@@ -1,13 +1,10 @@
 -- What the stream's source says of its origin, and of its turn.
-use Rattle.std.proofs.Common.{◌∙◌, true, false, ap, sym, subst, Ok, refl}
+use Rattle.std.proofs.Common.{◌∙◌, false, ap, sym, subst, Ok, refl}
 use Rattle.std.specs.declared.alloc.AllocError.{AllocError}
 use Rattle.flowsheet.specs.Plant.{Origin}
 use Rattle.plant.specs.PlantOf.{origin_in}
-use Rattle.relaxation.specs.Core.{last_step}
-use Rattle.renewal.specs.Plan.{window_of}
-use Rattle.relax_core.specs.Stepping.{Steps}
 use Rattle.relax_core.specs.Turns.{IsGivenBy, TurnsFrom}
-use Rattle.relax_core.specs.declared.board.Stepped.{Stepped}
+use Rattle.relax_core.proofs.Turning.{turned}
 use Rattle.relax_core.proofs.board.Board.turn.Goals as goal
 
 pub step_from_last-requires-clause-given : goal.step_from_last-requires-clause-given
@@ -21,21 +18,9 @@ returns-in-Feed c =
     (sym (c.source.ensures ∙ ap origin_in c.in-Feed.is)) (refl, refl)
 
 pub returns-in-Narrowed : goal.returns-in-Narrowed
-returns-in-Narrowed c =
-    let board = c.args.self.now in
-    let new = c.step_from_last.new.self in
-    let step = last_step (window_of board.plan) board.versions c.in-Port.unit c.args.stream in
-    let told = subst (λ (stepped : Stepped). Steps (Ok stepped) board step new) c.in-Narrowed.is
-    c.in_ok-step_from_last-in-Port.ensures in
-    subst (λ (origin : Origin). TurnsFrom {E = AllocError} (Ok true) board c.args.stream origin new)
-    (sym (c.source.ensures ∙ ap origin_in c.in-Port.is)) (told.0, told.1, told.3)
+returns-in-Narrowed c = turned c.args.self.now c.step_from_last.new.self c.args.stream c.in-Port.unit c.in-Port.port _ _
+    (c.source.ensures ∙ ap origin_in c.in-Port.is) c.in-Narrowed.is c.in_ok-step_from_last-in-Port.ensures
 
 pub returns-in-Same : goal.returns-in-Same
-returns-in-Same c =
-    let board = c.args.self.now in
-    let new = c.step_from_last.new.self in
-    let step = last_step (window_of board.plan) board.versions c.in-Port.unit c.args.stream in
-    let told = subst (λ (stepped : Stepped). Steps (Ok stepped) board step new) c.in-Same.is
-    c.in_ok-step_from_last-in-Port.ensures in
-    subst (λ (origin : Origin). TurnsFrom {E = AllocError} (Ok false) board c.args.stream origin new)
-    (sym (c.source.ensures ∙ ap origin_in c.in-Port.is)) (told.0, told.1, told.2)
+returns-in-Same c = turned c.args.self.now c.step_from_last.new.self c.args.stream c.in-Port.unit c.in-Port.port _ _
+    (c.source.ensures ∙ ap origin_in c.in-Port.is) c.in-Same.is c.in_ok-step_from_last-in-Port.ensures
