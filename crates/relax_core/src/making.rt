@@ -2,11 +2,11 @@
 
 ghost use Rattle.std.specs.Prelude.{◌≡◌, ◌<◌, ◌≤◌, ◌^◌, ℕ, length, IfOk};
 ghost use Rattle.std.specs.List.{AllByRecursion};
-ghost use Rattle.relaxation.specs.Tube.{HasNumbers, meet};
-ghost use Rattle.relaxation.specs.Core.{versions_of, last_of};
-ghost use Rattle.tubes.specs.Shape.{HasShapeOf};
 ghost use Rattle.plant_streams.specs.Streams.{streams_of};
 ghost use Rattle.plant_units.specs.Units.{units_of};
+ghost use Rattle.tubes.specs.Shape.{HasShapeOf};
+ghost use Rattle.relaxation.specs.Tube.{HasNumbers, meet};
+ghost use Rattle.relaxation.specs.Core.{versions_of, last_of};
 ghost use Rattle.renewal.specs.Room.{planned};
 ghost use Rattle.relax_core.specs.Making.{FindsMissing, Appends};
 
