@@ -1,17 +1,11 @@
 -- What a board keeps stays with a step: its renewal is remembered in the room, and the numbers by the stream.
-use Rattle.std.proofs.Common.{◌≡◌, ◌∙◌, ℕ, ◌<◌, List, length, length-set, sym, subst, arith, Ok}
-use Rattle.std.specs.Prelude.{Result, slice_set, Option, Some}
-use Rattle.flowsheet.specs.Plant.{port, origin_of}
+use Rattle.std.proofs.Common.{◌≡◌, ◌∙◌, ℕ, List, [], length-set, sym, subst, arith, Ok}
+use Rattle.std.specs.Prelude.{Result, slice_set, slice_index_or, Option, Some}
 use Rattle.relaxation.specs.Tube.{Tube}
-use Rattle.relaxation.specs.Window.{renewal}
 use Rattle.relaxation.specs.Core.{Versions, named, AreThere}
-use Rattle.plant_streams.specs.Streams.{streams_of}
-use Rattle.plant_units.specs.Units.{units_of}
-use Rattle.plant.specs.PlantOf.{plant_of}
-use Rattle.renewal.specs.Plan.{window_of}
 use Rattle.renewal.specs.Room.{planned, renewal_of}
 use Rattle.relax_core.specs.Board.{RowOf, BoardOf}
-use Rattle.relax_core.specs.Making.{Appends}
+use Rattle.relax_core.specs.Making.{IsPortOf, Appends}
 use Rattle.relax_core.specs.Rooms.{IsRoomFor, IsRenewedFrom, IsKept}
 use Rattle.relax_core.specs.declared.board.Stepped.{Stepped}
 use Rattle.relax_core.specs.declared.board.StepFault.{StepFault}
@@ -23,29 +17,26 @@ use Rattle.relax_core.proofs.Steps.{appended-is, appended-few, appended-grown, a
 
 module _ (board : BoardOf) (rooms : List Room) (met : List (Option (List ℕ))) (order : List ℕ)
     (kept : IsKept board rooms met order)
-    (s : ℕ) (numbers : List ℕ) (u p : ℕ) (l : s < length (streams_of board.plan.parts))
-    (origin : origin_of (plant_of board.plan.parts) s ≡ port u p)
-    (below : u < length (units_of board.plan.parts))
+    (s : ℕ) (numbers : List ℕ) (u p : ℕ) (given : IsPortOf board.plan s u p)
     (there : AreThere board.versions (planned board.plan u).reads numbers)
     (room : Room) (fits : IsRoomFor board.plan u room)
     (renewed : room.outputs ≡ renewal_of board.plan u (named board.versions (planned board.plan u).reads numbers))
     (memory : room.renewed ≡ Some numbers) (tube : Tube)
-    (same : tube ≡ renewal (window_of board.plan) u p
-    (named board.versions (planned board.plan u).reads numbers)) where
+    (at : tube ≡ slice_index_or room.outputs.ports p []) where
   -- the room, whatever is appended
   pub kept-room : (result : Result Stepped StepFault) (more : Versions) (longer : List RowOf) →
       Appends result s tube numbers board.versions board.rows more longer →
       IsKept (board_of board.plan more longer) (slice_set rooms u room) met order
   kept-room result more longer h =
-      let grown = appended-grown board kept.steps s numbers u p l origin there tube same result more longer h in
+      let grown = appended-grown board kept.steps s numbers u p given there room.outputs renewed tube at result more longer h in
       let made = subst (IsRenewedFrom board.plan board.versions u room.outputs) (sym memory) (there, renewed) in
       record {
-        steps = appended-is board kept.steps s numbers u p l origin there tube same result more longer h;
+        steps = appended-is board kept.steps s numbers u p given there room.outputs renewed tube at result more longer h;
         few = appended-few result s tube numbers board.versions more board.rows longer
-            (omega (arith, streams-there board kept.steps)) kept.few h;
-        rooms = rooms-set board.plan u room rooms kept.rooms below fits;
+            (omega (arith, streams-there board kept.steps, given.stream)) kept.few h;
+        rooms = rooms-set board.plan u room rooms kept.rooms given.unit fits;
         renewed = renewed-stays board.versions more grown board.plan (slice_set rooms u room)
-            (renewed-set board.plan board.versions u room rooms kept.rooms kept.renewed below made);
+            (renewed-set board.plan board.versions u room rooms kept.rooms kept.renewed given.unit made);
         counted = kept.counted;
         met = met-stays board.versions more grown board.plan met kept.met;
         order = kept.order;
@@ -63,8 +54,8 @@ module _ (board : BoardOf) (rooms : List Room) (met : List (Option (List ℕ))) 
         rooms = next.rooms;
         renewed = next.renewed;
         counted = length-set met s (Some numbers) ∙ next.counted;
-        met = met-set board.plan more met s numbers (omega (arith, next.counted))
-            (appended-legal board kept.steps s numbers u p l origin there tube same made more longer h)
-            (appended-idle board kept.steps s numbers u p l origin there tube same made more longer h) next.met;
+        met = met-set board.plan more met s numbers (omega (arith, next.counted, given.stream))
+            (appended-legal board kept.steps s numbers u p given there room.outputs renewed tube at made more longer h)
+            (appended-idle board kept.steps s numbers u p given there room.outputs renewed tube at made more longer h) next.met;
         order = next.order;
       }

@@ -74,11 +74,12 @@ module _ (plan : PlanOf) (order : List ℕ) (is : IsOrder plan order) where
   order-length = length_permutation (range_with_len 0 (length (streams_of plan.parts))) order is
       ∙ length-range_with_len 0 (length (streams_of plan.parts))
 
--- the first of a list are no more
-pub front-few : (list : List ℕ) (n s : ℕ) → count_by (λ r. r == s) (take n list) ≤ count_by (λ r. r == s) list
-front-few list n s =
-    omega (
-      arith,
-      sum_by-append (marks s) (take n list) (drop n list),
-      ap (count_by (λ r. r == s)) (take-append-drop n list),
-    )
+  -- also among the first of them
+  pub front-once : (n s : ℕ) → count_by (λ r. r == s) (take n order) ≤ 1
+  front-once n s =
+      omega (
+        arith,
+        sum_by-append (marks s) (take n order) (drop n order),
+        ap (count_by (λ r. r == s)) (take-append-drop n order),
+        order-once s,
+      )

@@ -77,17 +77,16 @@ pub reading-none : (plan : PlanOf) (state : Versions) (reads numbers : List ℕ)
 reading-none plan state reads numbers tubes h = record { opened = h; read = λ p l. absurd (omega arith) }
 
 module _ (plan : PlanOf) (state : Versions) (within : AreVersionsWithin plan state) (reads numbers : List ℕ) (there : AreThere state reads numbers) where
-  -- one more fits, and is read in
-  pub reading-shape : (n : ℕ) (tubes : List Tube) → n < length reads → IsReading plan state reads numbers n tubes →
+  named-shape : (n : ℕ) (tubes : List Tube) → n < length reads → IsReading plan state reads numbers n tubes →
       HasShapeOf (slice_index_or tubes n []) (version_at state (slice_index reads n) (slice_index numbers n))
-  reading-shape n tubes l r =
+  named-shape n tubes l r =
       within-shape _ _ (opened-at plan reads tubes n r.opened l)
       ∙ sym (within-shape _ _ (within (slice_index reads n) (slice_index numbers n) (there-at state reads numbers n there l)))
 
-  pub reading-more : (n : ℕ) (tubes : List Tube) → n < length reads → IsReading plan state reads numbers n tubes →
+  named-more : (n : ℕ) (tubes : List Tube) → n < length reads → IsReading plan state reads numbers n tubes →
       IsReading plan state reads numbers (n + 1)
       (slice_set tubes n (version_at state (slice_index reads n) (slice_index numbers n)))
-  reading-more n tubes l r =
+  named-more n tubes l r =
       let tube : Tube = version_at state (slice_index reads n) (slice_index numbers n) in
       record {
         opened = set-opened plan reads tubes n tube r.opened l
@@ -98,6 +97,21 @@ module _ (plan : PlanOf) (state : Versions) (within : AreVersionsWithin plan sta
           | inr ne ↦ get_or-set_other tubes n p tube [] ne ∙ r.read p (omega arith)
         ];
       }
+
+  -- one more, of the streams that were asked for, fits and is read in
+  module _ (n : ℕ) (tubes : List Tube) (streams : List ℕ) (tube : Tube) (asked : streams ≡ reads) (l : n < length streams)
+      (is : tube ≡ version_at state (slice_index streams n) (slice_index numbers n))
+      (r : IsReading plan state reads numbers n tubes) where
+    tube-named : tube ≡ version_at state (slice_index reads n) (slice_index numbers n)
+    tube-named = is ∙ ap (λ (list : List ℕ). version_at state (slice_index list n) (slice_index numbers n)) asked
+
+    pub reading-shape : HasShapeOf (slice_index_or tubes n []) tube
+    reading-shape = subst (λ (t : Tube). HasShapeOf (slice_index_or tubes n []) t) (sym tube-named)
+        (named-shape n tubes (omega (arith, ap length asked, l)) r)
+
+    pub reading-more : IsReading plan state reads numbers (n + 1) (slice_set tubes n tube)
+    reading-more = subst (λ (t : Tube). IsReading plan state reads numbers (n + 1) (slice_set tubes n t)) (sym tube-named)
+        (named-more n tubes (omega (arith, ap length asked, l)) r)
 
   pub reading-whole : (n : ℕ) (tubes : List Tube) → length reads ≤ n → IsReading plan state reads numbers n tubes →
       tubes ≡ named state reads numbers

@@ -105,17 +105,19 @@ module _ (start : BoardOf) (k : ℕ) (board : BoardOf) (h : IsSettling start k b
         omega (arith, e, h.counted, few)
 
     -- and in a sweep that did not come to its end one more
-    pub sweeping-few : (turned : List ℕ) (narrows : Bool) (new : BoardOf) →
+    pub sweeping-few : k < start.plan.ticks * ((plant_of start.plan.parts).top + 1) →
+        (turned : List ℕ) (narrows : Bool) (new : BoardOf) →
         IsSweeping board turned narrows new → (s : ℕ) → count_by (λ r. r == s) turned ≤ 1 →
-        length (versions_of new.versions s) ≤ length (versions_of start.versions s) + (k + 1)
-    sweeping-few turned narrows new w s once =
+        length (versions_of new.versions s)
+        ≤ length (versions_of start.versions s) + start.plan.ticks * ((plant_of start.plan.parts).top + 1)
+    sweeping-few below turned narrows new w s once =
         let window : Window = window_of start.plan in
         let e : new.versions ≡ replay window board.versions w.steps
         = sweep-leaves board turned narrows new w
         ∙ ap (λ (p : PlanOf). replay (window_of p) board.versions w.steps) plan-same in
         let count = steps-count window (board-open start is) board.versions w.steps settling-kept
         (subst (λ (p : PlanOf). AreLegal (window_of p) board.versions w.steps) plan-same w.legal) s in
-        omega (arith, ap (λ state. length (versions_of state s)) e, count, w.few s, once, settling-few s)
+        omega (arith, ap (λ state. length (versions_of state s)) e, count, w.few s, once, settling-few s, below)
 
     -- as many sweeps as there are places leave it quiet
     pub settling-quiet : start.plan.ticks * ((plant_of start.plan.parts).top + 1) ≤ k →

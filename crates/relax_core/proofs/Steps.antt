@@ -4,7 +4,6 @@ use Rattle.std.proofs.Common.{sym, ap, subst, arith, inl, inr, true, false, Ok, 
 use Rattle.std.specs.Prelude.{Result, slice_set, slice_index_or}
 use Rattle.std.proofs.lemmas.Bool.{cases_eq}
 use Rattle.std.proofs.lemmas.List.{length_push}
-use Rattle.flowsheet.specs.Plant.{port, origin_of}
 use Rattle.relaxation.specs.Tube.{Tube, IsWithin, HasNumbers, is_within, meet}
 use Rattle.relaxation.specs.Window.{Window, renewal, run_tube}
 use Rattle.relaxation.specs.Core.{Versions, Step, versions_of, last_of, named, AreThere}
@@ -14,12 +13,10 @@ use Rattle.relaxation.proofs.Sequences.{after-idle, after-narrows}
 use Rattle.relaxation.proofs.Stays.{legal-stays}
 use Rattle.relaxation.proofs.States.{step-numbers, renewal-holds, last-holds}
 use Rattle.tubes.specs.Shape.{HasShapeOf}
-use Rattle.plant_streams.specs.Streams.{streams_of}
-use Rattle.plant.specs.PlantOf.{plant_of}
 use Rattle.renewal.specs.Plan.{PlanOf, window_of}
-use Rattle.renewal.specs.Room.{planned}
+use Rattle.renewal.specs.Room.{RenewalOf, planned, renewal_of}
 use Rattle.relax_core.specs.Board.{RowOf, BoardOf, IsBoard, rows_from, after}
-use Rattle.relax_core.specs.Making.{Appends}
+use Rattle.relax_core.specs.Making.{IsPortOf, Appends}
 use Rattle.relax_core.specs.Stepping.{Steps}
 use Rattle.relax_core.specs.declared.board.Stepped.{Stepped}
 use Rattle.relax_core.specs.declared.board.Stepped.TheVariants as stepped
@@ -27,14 +24,15 @@ use Rattle.relax_core.specs.declared.board.StepFault.{StepFault}
 use Rattle.relax_core.specs.declared.board.StepFault.TheVariants as fault
 use Rattle.relax_core.proofs.Boards.{board-open, board-kept, stream-below, after-is, board_of}
 use Rattle.relax_core.proofs.Readings.{within-shape}
+use Rattle.relax_core.proofs.Renewals.{port-is}
 
 -- a board with these versions and rows
 same-board : (plan : PlanOf) (state more : Versions) (rows longer : List RowOf) → more ≡ state → longer ≡ rows →
     board_of plan more longer ≡ board_of plan state rows
 same-board plan state more rows longer e k = ap (λ versions. board_of plan versions longer) e ∙ ap (board_of plan state) k
 
-module _ (board : BoardOf) (is : IsBoard board) (s : ℕ) (numbers : List ℕ) (u p : ℕ) (l : s < length (streams_of board.plan.parts))
-    (origin : origin_of (plant_of board.plan.parts) s ≡ port u p) (there : AreThere board.versions (planned board.plan u).reads numbers) where
+module _ (board : BoardOf) (is : IsBoard board) (s : ℕ) (numbers : List ℕ) (u p : ℕ) (given : IsPortOf board.plan s u p)
+    (there : AreThere board.versions (planned board.plan u).reads numbers) where
   abbrev window : Window
   window = window_of board.plan
 
@@ -43,17 +41,19 @@ module _ (board : BoardOf) (is : IsBoard board) (s : ℕ) (numbers : List ℕ) (
 
   pub step-legal : IsLegal (window_of board.plan) board.versions step
   step-legal = record {
-    stream = stream-below board is s l;
-    inputs = subst (IsLegalFrom window board.versions numbers) (sym origin) there;
+    stream = stream-below board is s given.stream;
+    inputs = subst (IsLegalFrom window board.versions numbers) (sym given.origin) there;
   }
 
   pub step-renewed : step_renewal (window_of board.plan) board.versions step
       ≡ renewal (window_of board.plan) u p (named board.versions (planned board.plan u).reads numbers)
-  step-renewed = ap (origin_renewal window board.versions s numbers) origin
+  step-renewed = ap (origin_renewal window board.versions s numbers) given.origin
 
-  module _ (tube : Tube) (same : tube ≡ renewal (window_of board.plan) u p (named board.versions (planned board.plan u).reads numbers)) where
+  module _ (outputs : RenewalOf) (renewed : outputs ≡ renewal_of board.plan u (named board.versions (planned board.plan u).reads numbers))
+      (tube : Tube) (at : tube ≡ slice_index_or outputs.ports p []) where
     renews : tube ≡ step_renewal window board.versions step
-    renews = same ∙ sym step-renewed
+    renews = port-is board.plan u (named board.versions (planned board.plan u).reads numbers) outputs p tube renewed at given.output
+        ∙ sym step-renewed
 
     -- the last version and the renewal have one shape, and a meet
     pub step-meets : HasNumbers (meet (last_of board.versions s) tube)
@@ -63,7 +63,7 @@ module _ (board : BoardOf) (is : IsBoard board) (s : ℕ) (numbers : List ℕ) (
     pub step-shape : HasShapeOf (last_of board.versions s) tube
     step-shape =
         sym (within-shape (run_tube window s) (last_of board.versions s)
-        (last-holds window (board-open board is) board.versions (board-kept board is) s (stream-below board is s l)))
+        (last-holds window (board-open board is) board.versions (board-kept board is) s (stream-below board is s given.stream)))
         ∙ within-shape (run_tube window s) tube (subst (IsWithin (run_tube window s)) (sym renews)
         (renewal-holds window (board-open board is) board.versions (board-kept board is) step step-legal))
 

@@ -1,13 +1,14 @@
 -- The unit that gives a stream, and the last versions of what it reads, which are there.
 use Rattle.std.proofs.Common.{◌≡◌, ◌∙◌, ℕ, ◌+◌, ◌-◌, ◌<◌, List, [], ◌∷◌, ◌++◌, length, map, take}
-use Rattle.std.proofs.Common.{get_or, sym, ap, subst, arith}
-use Rattle.std.specs.Prelude.{slice_index, slice_set}
+use Rattle.std.proofs.Common.{get_or, true, false, Ok, sym, ap, subst, arith}
+use Rattle.std.specs.Prelude.{Bool, slice_index, slice_set}
 use Rattle.std.specs.List.{AllByRecursion}
 use Rattle.std.proofs.lemmas.List.{length-map, take_more_set, map_more}
+use Rattle.std.specs.declared.alloc.AllocError.{AllocError}
 use Rattle.flowsheet.specs.Plant.{Origin, feed, port, origin_of}
 use Rattle.flowsheet.proofs.Ranks.{unit_there}
 use Rattle.parts.specs.Parts.{FileParts}
-use Rattle.relaxation.specs.Core.{Versions, versions_of, last_numbers}
+use Rattle.relaxation.specs.Core.{Versions, versions_of, last_numbers, last_step}
 use Rattle.plant_streams.specs.declared.streams.Stream.{Stream}
 use Rattle.plant_streams.specs.declared.streams.StreamSource.{StreamSource}
 use Rattle.plant_streams.specs.declared.streams.StreamSource.TheVariants as source
@@ -15,14 +16,16 @@ use Rattle.plant_streams.specs.Streams.{streams_of}
 use Rattle.plant_units.specs.Units.{units_of}
 use Rattle.plant.specs.PlantOf.{plant_of, origin_in}
 use Rattle.plant.proofs.Lookups.{at-map, origin-is, units-counted, streams-counted}
-use Rattle.renewal.specs.Plan.{PlanOf, IsPlan}
+use Rattle.renewal.specs.Plan.{PlanOf, IsPlan, window_of}
 use Rattle.renewal.specs.Room.{planned}
 use Rattle.renewal.proofs.Givers.{some-giver, reads-are}
 use Rattle.renewal.proofs.RoomShapes.{below-at}
 use Rattle.renewal.proofs.Windows.{is-open}
 use Rattle.relax_core.specs.Board.{BoardOf, IsBoard}
-use Rattle.relax_core.specs.Stepping.{IsFirstMissing, reads_for, reads_from}
-use Rattle.relax_core.specs.Turns.{IsGivenBy}
+use Rattle.relax_core.specs.Stepping.{IsFirstMissing, reads_for, reads_from, Steps}
+use Rattle.relax_core.specs.Turns.{IsGivenBy, TurnsFrom, Turns}
+use Rattle.relax_core.specs.declared.board.Stepped.{Stepped}
+use Rattle.relax_core.specs.declared.board.Stepped.TheVariants as stepped
 use Rattle.relax_core.proofs.Boards.{some-version}
 
 -- the origin of a stream that is read from the list of streams
@@ -88,3 +91,21 @@ last-missing board is u l numbers reads r e k wanted have missing =
     let some = some-version board is (slice_index own k)
     (below-at (length (streams_of board.plan.parts)) own k (reads-there board.plan u is.plan l) inside) in
     omega (arith, m.names, m.counts, m.missing, at, some)
+
+-- a turn tells whether its step narrowed
+abbrev pub has_narrowed : Stepped → Bool
+has_narrowed (stepped.Narrowed number) = true
+has_narrowed stepped.Same = false
+
+told : (board new : BoardOf) (s u p : ℕ) (made : Stepped) →
+    Steps (Ok made) board (last_step (window_of board.plan) board.versions u s) new →
+    TurnsFrom {E = AllocError} (Ok (has_narrowed made)) board s (port u p) new
+told board new s u p (stepped.Narrowed number) h = (h.0, h.1, h.3)
+told board new s u p stepped.Same h = h
+
+pub turned : (board new : BoardOf) (s u p : ℕ) (made seen : Stepped) →
+    origin_of (plant_of board.plan.parts) s ≡ port u p → made ≡ seen →
+    Steps (Ok made) board (last_step (window_of board.plan) board.versions u s) new → Turns {E = AllocError} (Ok (has_narrowed seen)) board s new
+turned board new s u p made seen origin e h =
+    subst (λ (from : Origin). TurnsFrom {E = AllocError} (Ok (has_narrowed seen)) board s from new) (sym origin)
+    (told board new s u p seen (subst (λ (m : Stepped). Steps (Ok m) board (last_step (window_of board.plan) board.versions u s) new) e h))

@@ -2,15 +2,27 @@
 -- The parts of which a step on a board is made.
 use Rattle.std.specs.Prelude.{◌≡◌, ◌+◌, ◌<◌, ◌^◌, ℕ, true, false, List, [], ◌∷◌, ◌++◌, length, slice_set}
 use Rattle.std.specs.Prelude.{Result, Ok, Err, Option, Some, None}
+use Rattle.flowsheet.specs.Plant.{port, origin_of}
 use Rattle.relaxation.specs.Tube.{Tube, IsWithin, is_within, meet}
 use Rattle.relaxation.specs.Core.{Versions, versions_of, version_at, last_of, AreThere}
+use Rattle.plant_streams.specs.Streams.{streams_of}
+use Rattle.plant_units.specs.Units.{units_of}
+use Rattle.plant.specs.PlantOf.{plant_of}
 use Rattle.renewal.specs.Plan.{PlanOf, window_of}
+use Rattle.renewal.specs.Room.{planned}
 use Rattle.relax_core.specs.Board.{RowOf, BoardOf}
 use Rattle.relax_core.specs.Stepping.{IsFirstMissing}
 use Rattle.relax_core.specs.declared.board.Stepped.{Stepped}
 use Rattle.relax_core.specs.declared.board.Stepped.TheVariants as stepped
 use Rattle.relax_core.specs.declared.board.StepFault.{StepFault}
 use Rattle.relax_core.specs.declared.board.StepFault.TheVariants as fault
+
+-- the stream is this output of the unit
+pub record IsPortOf (plan : PlanOf) (s u p : ℕ) : Type 0 where
+  pub stream : s < length (streams_of plan.parts)
+  pub origin : origin_of (plant_of plan.parts) s ≡ port u p
+  pub unit : u < length (units_of plan.parts)
+  pub output : p < length (planned plan u).view
 
 -- each version that is there lies in the tube that its stream opens with
 abbrev pub AreVersionsWithin : PlanOf → Versions → Type 0

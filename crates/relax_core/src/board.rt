@@ -11,12 +11,13 @@ ghost use Rattle.relax_core.specs.Settled.{window_on};
 ghost use Rattle.renewal.specs.Plan.{window_of, IsPlan};
 ghost use Rattle.relax_core.specs.Stepping.{reads_for, IsOutputOf, Steps};
 
-use crate::givers::{giver, reads};
+use crate::givers::giver;
 use crate::lines::Lines;
-use crate::making::{append, first_missing};
+use crate::making::{append, missing};
 use crate::order::{STREAMS, flow_order};
 use crate::refs::{Refs, remembers};
 use crate::room::Room;
+use crate::sizes::unit_count;
 use crate::window::Window;
 use renewal::WindowPlan;
 use std::alloc::{AllocError, Global};
@@ -103,8 +104,8 @@ fn rooms_of(alloc: Global, plan: &WindowPlan<'_>) -> Result<Vec<Room>, AllocErro
     ensures rooms { IfOk result (λ rooms. AreNewRooms plan.now rooms.items) }
 {
     let mut rooms = Vec::new(alloc);
-    for unit in 0..plan.plant().units().len() {
-        rooms.push(Room::new(alloc, plan, unit as u32)?)?;
+    for unit in 0..unit_count(plan) {
+        rooms.push(Room::new(alloc, plan, unit)?)?;
     }
     Ok(rooms)
 }
@@ -218,7 +219,7 @@ impl<'p> Board<'p> {
             return Ok(Stepped::Same);
         }
         let (unit, port) = giver(self.plan, stream);
-        if let Some(fault) = first_missing(&self.lines, reads(self.plan, unit), versions) {
+        if let Some(fault) = missing(self.plan, unit, &self.lines, versions) {
             return Err(fault);
         }
         let room = &mut self.rooms[unit as usize];

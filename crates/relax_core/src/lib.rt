@@ -11,6 +11,7 @@ mod order;
 mod refs;
 mod room;
 mod settle;
+mod sizes;
 mod window;
 
 pub use board::{Board, StepFault, StepRow, Stepped};

@@ -1,5 +1,6 @@
 //! The versions of each stream.
 
+use crate::sizes::stream_count;
 use renewal::{WindowPlan, opening_tube};
 use std::alloc::{AllocError, Global};
 use std::marker::Model;
@@ -98,8 +99,8 @@ impl Lines {
         ensures { IfOk result (λ lines. lines ≡ opened plan.now) }
     {
         let mut lines = Vec::new(alloc);
-        for stream in 0..plan.plant().streams().len() {
-            lines.push(Line::open(alloc, plan, stream as u32)?)?;
+        for stream in 0..stream_count(plan) {
+            lines.push(Line::open(alloc, plan, stream)?)?;
         }
         Ok(Lines { lines })
     }

@@ -2,19 +2,24 @@
 
 ghost use Rattle.std.specs.Prelude.{◌≡◌, ◌<◌, ◌≤◌, ◌^◌, ℕ, length, IfOk};
 ghost use Rattle.std.specs.List.{AllByRecursion};
+ghost use Rattle.plant_streams.specs.Streams.{streams_of};
+ghost use Rattle.plant_units.specs.Units.{units_of};
+ghost use Rattle.tubes.specs.Shape.{HasShapeOf};
 ghost use Rattle.relaxation.specs.Tube.{HasNumbers, meet};
 ghost use Rattle.relaxation.specs.Core.{versions_of, last_of};
-ghost use Rattle.tubes.specs.Shape.{HasShapeOf};
+ghost use Rattle.renewal.specs.Room.{planned};
 ghost use Rattle.relax_core.specs.Making.{FindsMissing, Appends};
 
 use crate::board::{StepFault, StepRow, Stepped};
+use crate::givers::reads;
 use crate::lines::Lines;
 use crate::refs::Refs;
+use renewal::WindowPlan;
 use std::alloc::{AllocError, Global};
 use tubes::Tube;
 
 /// The first input port at which the named version is not there.
-pub(crate) fn first_missing(lines: &Lines, reads: &[u32], versions: &[u32]) -> Option<StepFault>
+fn first_missing(lines: &Lines, reads: &[u32], versions: &[u32]) -> Option<StepFault>
     requires counted { length versions.now ≡ length reads.now }
     requires few_reads { length reads.now ≤ 8 }
     requires streams { AllByRecursion (λ s. s < length lines.now) reads.now }
@@ -33,6 +38,23 @@ pub(crate) fn first_missing(lines: &Lines, reads: &[u32], versions: &[u32]) -> O
         }
     }
     None
+}
+
+/// The first input port of a unit at which the named version is not there.
+pub(crate) fn missing(
+    plan: &WindowPlan<'_>,
+    unit: u32,
+    lines: &Lines,
+    versions: &[u32],
+) -> Option<StepFault>
+    requires unit { unit < length (units_of plan.now.parts) }
+    requires counted { length versions.now ≡ length (planned plan.now unit).reads }
+    requires streams { length lines.now ≡ length (streams_of plan.now.parts) }
+    requires few { (s : ℕ) → length (versions_of lines.now s) < 2 ^ 32 }
+    ensures few { length versions.now ≤ 8 }
+    ensures missing { FindsMissing result lines.now (planned plan.now unit).reads versions.now }
+{
+    first_missing(lines, reads(plan, unit), versions)
 }
 
 /// The meet of a tube with another, in memory of its own.

@@ -5,6 +5,7 @@ ghost use Rattle.std.specs.List.{range_with_len};
 ghost use Rattle.plant_streams.specs.Streams.{streams_of};
 ghost use Rattle.relax_core.specs.Order.{IsOrder};
 
+use crate::sizes::stream_count;
 use plant::{Stream, StreamSource, Unit};
 use renewal::WindowPlan;
 use std::alloc::{AllocError, Global};
@@ -189,10 +190,10 @@ fn place_of(streams: &[Stream], places: &[usize], stream: u32) -> usize {
 fn numbered(alloc: Global, plan: &WindowPlan<'_>) -> Result<Vec<u32>, AllocError>
     ensures { IfOk result (λ order. order.items ≡ range_with_len 0 (length (streams_of plan.now.parts))) }
 {
-    let count = plan.plant().streams().len();
+    let count = stream_count(plan);
     let mut order = Vec::new(alloc);
     for stream in 0..count {
-        order.push(stream as u32)?;
+        order.push(stream)?;
     }
     Ok(order)
 }

@@ -2,7 +2,7 @@
 
 ghost use Rattle.std.specs.Prelude.{◌≡◌, ◌<◌, ◌≤◌, ◌+◌, ◌*◌, ℕ, length, take, max, fold, OnOk};
 ghost use Rattle.flowsheet.specs.Plant.{origin_of};
-ghost use Rattle.plant.specs.PlantOf.{plant_of};
+ghost use Rattle.plant.specs.PlantOf.{plant_of, origin_in};
 ghost use Rattle.plant_streams.specs.Streams.{streams_of};
 ghost use Rattle.plant_units.specs.Units.{units_of};
 ghost use Rattle.relaxation.specs.Core.{versions_of, last_numbers, last_step, IsQuiet};
@@ -14,7 +14,7 @@ ghost use Rattle.relax_core.specs.Settling.{GoesOn};
 ghost use Rattle.relax_core.specs.Turns.{IsGivenBy, StepsThere, Turns, Sweeps};
 
 use crate::board::{Board, StepFault, Stepped};
-use crate::givers::reads;
+use crate::givers::{reads, source_of};
 use crate::order::STREAMS;
 use plant::StreamSource;
 use renewal::WindowPlan;
@@ -83,12 +83,20 @@ impl<'p> Board<'p> {
         }
     }
 
+    /// Where a stream comes from.
+    fn source(&self, stream: u32) -> StreamSource
+        requires { stream < length (streams_of self.now.plan.parts) }
+        ensures { origin_of (plant_of self.now.plan.parts) stream ≡ origin_in result }
+    {
+        source_of(self.plan(), stream)
+    }
+
     /// The turn of a stream in a sweep: tells whether it narrowed.
     fn turn(&mut self, alloc: Global, stream: u32) -> Result<bool, AllocError>
         requires { stream < length (streams_of self.old.plan.parts) }
         ensures { Turns result self.old stream self.new }
     {
-        match self.plan().plant().streams()[stream as usize].source {
+        match self.source(stream) {
             StreamSource::Feed { .. } => Ok(false),
             StreamSource::Port { unit, .. } => match self.step_from_last(alloc, unit, stream)? {
                 Stepped::Narrowed { .. } => Ok(true),

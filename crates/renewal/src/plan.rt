@@ -75,7 +75,7 @@ impl<'p> WindowPlan<'p> {
     }
 
     /// The unit with this number.
-    pub(crate) fn unit(&self, unit: u32) -> &'p Unit
+    pub fn unit(&self, unit: u32) -> &'p Unit
         requires { unit < length (units_of self.now.parts) }
         ensures { IsGiver self.now unit result.now }
     {

@@ -5,7 +5,7 @@ use Rattle.renewal.specs.Plan.{PlanOf}
 use Rattle.relax_core.specs.Board.{BoardOf}
 use Rattle.relax_core.specs.Order.{IsOrder}
 use Rattle.relax_core.specs.Turns.{IsSweeping}
-use Rattle.relax_core.proofs.Orders.{order-once, front-few}
+use Rattle.relax_core.proofs.Orders.{order-once, front-once}
 use Rattle.relax_core.proofs.Settled.{IsSettling, plan-same, settling_none, settling-more, settling-few, settling-quiet}
 use Rattle.relax_core.proofs.Settled.{sweeping-few, sweep-quiet}
 use Rattle.relax_core.proofs.Sweeping.{goes_further, sweep-goes}
@@ -43,18 +43,9 @@ pub returns-in_err-sweep-clause-few : goal.returns-in_err-sweep-clause-few
 returns-in_err-sweep-clause-few c = λ s l.
     let began = c.in_err-sweep.ensures in
     let order = take c.write_order-count.result c.write_order-count.new.order in
-    omega (
-      arith,
-      c.places-end.ensures.places,
-      c.loop-test.true,
-      sweeping-few c.args.self.now c.loop.counter c.loop.self c.loop.invariant c.places-end.ensures.board
-          (take began.0 order) _ c.sweep.new.self began.1 s
-          (omega (
-            arith,
-            front-few order began.0 s,
-            order-once c.args.self.now.plan order c.write_order-count.ensures.order s,
-          )),
-    )
+    sweeping-few c.args.self.now c.loop.counter c.loop.self c.loop.invariant c.places-end.ensures.board
+    (omega (arith, c.places-end.ensures.places, c.loop-test.true)) (take began.0 order) _ c.sweep.new.self began.1 s
+    (front-once c.args.self.now.plan order c.write_order-count.ensures.order began.0 s)
 
 pub returns-then-not-branch-clause-quiet : goal.returns-then-not-branch-clause-quiet
 returns-then-not-branch-clause-quiet c =
@@ -74,14 +65,9 @@ returns-then-not-branch-clause-longer c =
 pub returns-then-not-branch-clause-few : goal.returns-then-not-branch-clause-few
 returns-then-not-branch-clause-few c = λ s l.
     let order = take c.write_order-count.result c.write_order-count.new.order in
-    omega (
-      arith,
-      c.places-end.ensures.places,
-      c.loop-test.true,
-      sweeping-few c.args.self.now c.loop.counter c.loop.self c.loop.invariant c.places-end.ensures.board
-          order c.in_ok-sweep.field-0 c.sweep.new.self c.in_ok-sweep.ensures s
-          (order-once c.args.self.now.plan order c.write_order-count.ensures.order s),
-    )
+    sweeping-few c.args.self.now c.loop.counter c.loop.self c.loop.invariant c.places-end.ensures.board
+    (omega (arith, c.places-end.ensures.places, c.loop-test.true)) order c.in_ok-sweep.field-0 c.sweep.new.self
+    c.in_ok-sweep.ensures s (order-once c.args.self.now.plan order c.write_order-count.ensures.order s)
 
 pub returns-clause-quiet : goal.returns-clause-quiet
 returns-clause-quiet c = settling-quiet c.args.self.now c.loop.counter c.loop.self c.loop.invariant

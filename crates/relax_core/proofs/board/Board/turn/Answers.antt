@@ -1,54 +1,26 @@
 -- What the stream's source says of its origin, and of its turn.
-use Rattle.std.proofs.Common.{◌∙◌, true, false, ap, sym, subst, Ok, refl}
+use Rattle.std.proofs.Common.{◌∙◌, false, ap, sym, subst, Ok, refl}
 use Rattle.std.specs.declared.alloc.AllocError.{AllocError}
 use Rattle.flowsheet.specs.Plant.{Origin}
-use Rattle.plant_streams.specs.Streams.{streams_of}
-use Rattle.relaxation.specs.Core.{last_step}
-use Rattle.renewal.specs.Plan.{PlanOf, window_of}
-use Rattle.relax_core.specs.Stepping.{Steps}
+use Rattle.plant.specs.PlantOf.{origin_in}
 use Rattle.relax_core.specs.Turns.{IsGivenBy, TurnsFrom}
-use Rattle.relax_core.specs.declared.board.Stepped.{Stepped}
-use Rattle.relax_core.proofs.Turning.{origin-read}
+use Rattle.relax_core.proofs.Turning.{turned}
 use Rattle.relax_core.proofs.board.Board.turn.Goals as goal
 
 pub step_from_last-requires-clause-given : goal.step_from_last-requires-clause-given
 step_from_last-requires-clause-given c =
-    let parts = c.args.self.now.plan.parts in
-    let same = c.plant.ensures.plant ∙ ap (λ (plan : PlanOf). plan.parts) c.plan.ensures.plan in
-    let from = origin-read parts _ c.args.stream _ _ c.requires (c.streams.ensures ∙ ap streams_of same) c.in-Port.is in
-    subst (λ (origin : Origin). IsGivenBy origin c.in-Port.unit) (sym from) refl
+    subst (λ (origin : Origin). IsGivenBy origin c.in-Port.unit) (sym (c.source.ensures ∙ ap origin_in c.in-Port.is)) refl
 
 pub returns-in-Feed : goal.returns-in-Feed
 returns-in-Feed c =
-    let parts = c.args.self.now.plan.parts in
-    let same = c.plant.ensures.plant ∙ ap (λ (plan : PlanOf). plan.parts) c.plan.ensures.plan in
-    let from = origin-read parts _ c.args.stream _ _ c.requires (c.streams.ensures ∙ ap streams_of same) c.in-Feed.is in
     let board = c.args.self.now in
-    subst (λ (origin : Origin). TurnsFrom {E = AllocError} (Ok false) board c.args.stream origin board) (sym from)
-    (refl, refl)
+    subst (λ (origin : Origin). TurnsFrom {E = AllocError} (Ok false) board c.args.stream origin board)
+    (sym (c.source.ensures ∙ ap origin_in c.in-Feed.is)) (refl, refl)
 
 pub returns-in-Narrowed : goal.returns-in-Narrowed
-returns-in-Narrowed c =
-    let parts = c.args.self.now.plan.parts in
-    let same = c.plant.ensures.plant ∙ ap (λ (plan : PlanOf). plan.parts) c.plan.ensures.plan in
-    let from = origin-read parts _ c.args.stream _ _ c.requires (c.streams.ensures ∙ ap streams_of same) c.in-Port.is in
-    let board = c.args.self.now in
-    let step = last_step (window_of board.plan) board.versions c.in-Port.unit c.args.stream in
-    let told = subst (λ (stepped : Stepped). Steps (Ok stepped) board step c.step_from_last.new.self) c.in-Narrowed.is
-    c.in_ok-step_from_last-in-Port.ensures in
-    subst (λ (origin : Origin). TurnsFrom {E = AllocError} (Ok true) board c.args.stream origin c.step_from_last.new.self)
-    (sym from)
-    (told.0, told.1, told.3)
+returns-in-Narrowed c = turned c.args.self.now c.step_from_last.new.self c.args.stream c.in-Port.unit c.in-Port.port _ _
+    (c.source.ensures ∙ ap origin_in c.in-Port.is) c.in-Narrowed.is c.in_ok-step_from_last-in-Port.ensures
 
 pub returns-in-Same : goal.returns-in-Same
-returns-in-Same c =
-    let parts = c.args.self.now.plan.parts in
-    let same = c.plant.ensures.plant ∙ ap (λ (plan : PlanOf). plan.parts) c.plan.ensures.plan in
-    let from = origin-read parts _ c.args.stream _ _ c.requires (c.streams.ensures ∙ ap streams_of same) c.in-Port.is in
-    let board = c.args.self.now in
-    let step = last_step (window_of board.plan) board.versions c.in-Port.unit c.args.stream in
-    let told = subst (λ (stepped : Stepped). Steps (Ok stepped) board step c.step_from_last.new.self) c.in-Same.is
-    c.in_ok-step_from_last-in-Port.ensures in
-    subst (λ (origin : Origin). TurnsFrom {E = AllocError} (Ok false) board c.args.stream origin c.step_from_last.new.self)
-    (sym from)
-    (told.0, told.1, told.2)
+returns-in-Same c = turned c.args.self.now c.step_from_last.new.self c.args.stream c.in-Port.unit c.in-Port.port _ _
+    (c.source.ensures ∙ ap origin_in c.in-Port.is) c.in-Same.is c.in_ok-step_from_last-in-Port.ensures

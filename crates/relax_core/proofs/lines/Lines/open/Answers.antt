@@ -1,31 +1,12 @@
--- There are few streams, and each has its opening tube.
+-- Each stream has its opening tube.
 use Rattle.std.proofs.Common.{◌≡◌, ◌∙◌, ℕ, ◌+◌, [], ◌∷◌, ◌++◌, List, length, map, sym, ap, arith}
 use Rattle.std.specs.List.{range_with_len}
 use Rattle.std.proofs.lemmas.List.FromFn.{map-range_with_len_more}
-use Rattle.parts.specs.Parts.{FileParts}
 use Rattle.relaxation.specs.Tube.{Tube}
 use Rattle.plant_streams.specs.Streams.{streams_of}
 use Rattle.plant.proofs.Lookups.{streams-counted}
 use Rattle.renewal.specs.Plan.{window_of}
-use Rattle.relax_core.proofs.Counts.{streams-few}
 use Rattle.relax_core.proofs.lines.Lines.open.Goals as goal
-
-pub overflow_cast-stream : goal.overflow_cast-stream
-overflow_cast-stream c = omega (
-  arith,
-  c.loop-stream-test.true,
-  ap length c.streams-stream-end.ensures,
-  ap (λ (parts : FileParts). length (streams_of parts)) c.plant.ensures.plant,
-  streams-few c.args.plan.now c.plant.ensures.plan,
-)
-
-pub open-requires : goal.open-requires
-open-requires c = omega (
-  arith,
-  c.loop-stream-test.true,
-  ap length c.streams-stream-end.ensures,
-  ap (λ (parts : FileParts). length (streams_of parts)) c.plant.ensures.plant,
-)
 
 -- one stream more
 more : (opening : ℕ → List Tube) (n : ℕ) (lines old : List (List Tube)) (line : List Tube) → lines ≡ old ++ line ∷ [] →
@@ -42,11 +23,6 @@ loop-stream-preserved c = more (λ s. (window_of c.args.plan.now).opening s ∷ 
 pub returns : goal.returns
 returns c =
     let plan = c.args.plan.now in
-    let all : c.loop-stream.stream ≡ length (streams_of plan.parts) = omega (
-      arith,
-      c.loop-stream-test.false,
-      ap length c.streams-stream-end.ensures,
-      ap (λ (parts : FileParts). length (streams_of parts)) c.plant.ensures.plant,
-    ) in
+    let all : c.loop-stream.stream ≡ length (streams_of plan.parts) = omega (arith, c.loop-stream-test.false, c.stream_count-stream-end.ensures) in
     c.loop-stream.invariant
     ∙ ap (λ (n : ℕ). map (λ (s : ℕ). (window_of plan).opening s ∷ []) (range_with_len 0 n)) (all ∙ sym (streams-counted plan.parts))

@@ -1,9 +1,6 @@
 -- The versions that are read in lie in the tubes that their streams open with.
-use Rattle.std.proofs.Common.{◌≡◌, ◌∙◌, ℕ, ◌+◌, ◌<◌, ◌≤◌, List, length, slice_index, slice_index_or, [], sym, ap, subst, arith}
-use Rattle.std.specs.Prelude.{slice_set}
-use Rattle.relaxation.specs.Tube.{Tube}
-use Rattle.relaxation.specs.Core.{version_at, versions_of}
-use Rattle.tubes.specs.Shape.{HasShapeOf}
+use Rattle.std.proofs.Common.{◌≡◌, ◌∙◌, ℕ, ◌+◌, ◌<◌, ◌≤◌, List, length, slice_index, sym, ap, subst, arith}
+use Rattle.relaxation.specs.Core.{versions_of}
 use Rattle.renewal.specs.Room.{planned, HasRoomFor, renewal_of}
 use Rattle.relax_core.proofs.Readings.{IsReading, there-counted, there-at, stream-there, opened-counted, reading-none, reading-shape, reading-more, reading-whole}
 use Rattle.relax_core.proofs.Renewals.{renewed-room}
@@ -47,16 +44,10 @@ read-requires-clause-port c =
 
 pub read-requires-clause-shape : goal.read-requires-clause-shape
 read-requires-clause-shape c =
-    let plan = c.args.plan.now in
-    let reads = (planned plan c.args.unit).reads in
-    let n = c.loop-port.port in
-    let below : n < length reads = omega (arith, c.loop-port-test.true, ap length c.reads-stream-items.ensures.reads) in
-    let version = c.version-version.ensures
-    ∙ ap (λ (streams : List ℕ). version_at c.args.lines.now (slice_index streams n) (slice_index c.args.versions.now n))
-    c.reads-stream-items.ensures.reads in
-    subst (λ (tube : Tube). HasShapeOf (slice_index_or c.loop-port.self.inputs n []) tube) (sym version)
-    (reading-shape plan c.args.lines.now c.requires.within reads c.args.versions.now c.requires.there n c.loop-port.self.inputs below
-    c.loop-port.invariant.0)
+    reading-shape c.args.plan.now c.args.lines.now c.requires.within (planned c.args.plan.now c.args.unit).reads
+    c.args.versions.now c.requires.there c.loop-port.port c.loop-port.self.inputs c.reads-stream-items.result.now
+    c.version-version.result.now c.reads-stream-items.ensures.reads c.loop-port-test.true c.version-version.ensures
+    c.loop-port.invariant.0
 
 pub loop-port-init : goal.loop-port-init
 loop-port-init c =
@@ -69,15 +60,11 @@ pub loop-port-preserved : goal.loop-port-preserved
 loop-port-preserved c =
     let plan = c.args.plan.now in
     let reads = (planned plan c.args.unit).reads in
-    let n = c.loop-port.port in
-    let below : n < length reads = omega (arith, c.loop-port-test.true, ap length c.reads-stream-items.ensures.reads) in
-    let version = c.version-version.ensures
-    ∙ ap (λ (streams : List ℕ). version_at c.args.lines.now (slice_index streams n) (slice_index c.args.versions.now n))
-    c.reads-stream-items.ensures.reads in (
-      subst (IsReading plan c.args.lines.now reads c.args.versions.now (n + 1))
-          (sym (c.read.ensures ∙ ap (slice_set c.loop-port.self.inputs n) version))
-          (reading-more plan c.args.lines.now c.requires.within reads c.args.versions.now c.requires.there n c.loop-port.self.inputs
-          below c.loop-port.invariant.0),
+    let n = c.loop-port.port in (
+      subst (IsReading plan c.args.lines.now reads c.args.versions.now (n + 1)) (sym c.read.ensures)
+          (reading-more plan c.args.lines.now c.requires.within reads c.args.versions.now c.requires.there n
+          c.loop-port.self.inputs c.reads-stream-items.result.now c.version-version.result.now
+          c.reads-stream-items.ensures.reads c.loop-port-test.true c.version-version.ensures c.loop-port.invariant.0),
       c.loop-port.invariant.1,
     )
 
