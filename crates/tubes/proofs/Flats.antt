@@ -5,6 +5,7 @@ use Rattle.std.proofs.lemmas.Int.{ints}
 use Rattle.std.proofs.lemmas.List.{get_or_default, length-append, length-drop}
 use Rattle.std.proofs.Math.Seq.{take-append_seam}
 use Rattle.std.specs.Prelude.{◌&&◌, int_le, slice_set}
+use Rattle.quant.proofs.Calls.{same_cons}
 use Rattle.quant.specs.Interval.{Interval, IsBand, AllBands}
 use Rattle.relaxation.specs.Tube.{all_inside, meet_bands}
 use Rattle.tubes.specs.Flat.{common, has_number, nth, written}
@@ -50,6 +51,15 @@ pub band_each : (Cs : List Interval) (j : ℕ) → AllBands Cs → j < length Cs
 band_each [] j h k = omega arith
 band_each (C ∷ Cs) zero h k = h.0
 band_each (C ∷ Cs) (suc j) h k = band_each Cs j h.1 (omega arith)
+
+-- and lists of one length with the same bands at every place are one list
+pub each_same : (As Bs : List Interval) → length As ≡ length Bs → ((j : ℕ) → j < length As → nth As j ≡ nth Bs
+    j) → As ≡ Bs
+each_same [] [] e h = refl
+each_same [] (B ∷ Bs) e h = cc
+each_same (A ∷ As) [] e h = cc
+each_same (A ∷ As) (B ∷ Bs) e h = same_cons _ _ _ _ (h 0 (omega arith)) (each_same As Bs (omega arith) (λ j
+    k. h (suc j) (omega arith)))
 
 -- a band that has a number, and one that has none
 pub has_yes : (A : Interval) → has_number A ≡ true → IsBand A

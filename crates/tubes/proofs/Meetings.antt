@@ -1,4 +1,5 @@
--- The first place without a common number, found in the lists that two tubes are kept as.
+-- The first place without a common number, and the first with different bands, found in the lists that two tubes
+-- are kept as.
 use Rattle.std.proofs.Common.{◌≡◌, ℕ, suc, ◌+◌, ◌*◌, ◌/◌, ◌%◌, ◌<◌, ◌≤◌, slice_index_or, Some, List, [], length, sym, subst, ap, ◌∙◌, arith, inl, inr}
 use Rattle.std.proofs.lemmas.Int.{ints, clamps}
 use Rattle.std.proofs.Math.Nat.{mul-le-mul_right, div-lt_iff_lt-mul, mod-lt}
@@ -13,8 +14,8 @@ use Rattle.relaxation.specs.Tube.{Tube, at, meet_bands}
 use Rattle.tubes.specs.Cut.{cut}
 use Rattle.tubes.specs.Flat.{common, nth}
 use Rattle.tubes.specs.Shape.{HasShapeOf, band_at}
-use Rattle.tubes.specs.Meeting.{HasCommon, IsEarlier, IsFirstEmpty}
-use Rattle.tubes.specs.Flat.{IsFirstApart}
+use Rattle.tubes.specs.Meeting.{HasCommon, IsEarlier, IsFirstEmpty, IsFirstDifference}
+use Rattle.tubes.specs.Flat.{IsFirstApart, IsFirstDifferent}
 use Rattle.tubes.proofs.Flats.{meet_at}
 use Rattle.tubes.proofs.Cuts.{cut_counted}
 use Rattle.tubes.proofs.Places.{row_length, channel_there, place_there, place_is}
@@ -66,28 +67,69 @@ module _ (n c m d : ℕ) (xs ys : List Interval) (A B : Tube) (a : cut n c xs �
   channels-other t = sym (get_or-map length A t []) ∙ (ap (λ ls. slice_index_or ls t 0) h ∙ get_or-map length B t [])
 
   -- the bands that stand at a place
+  own-place : (t e : ℕ) → t < length A → e < length (at A t) → nth xs (t * c + e) ≡ band_at A t e
+  own-place t e k l = place_is n c xs A a size t k e l
+
+  other-place : (t e : ℕ) → t < length A → e < length (at A t) → nth ys (t * c + e) ≡ band_at B t e
+  other-place t e k l =
+      place_is n c ys B cut-other size-other t (subst (λ k. t < k) ticks-other k) e (subst (λ k. e < k)
+      (channels-other t) l)
+
   at-place : (t e : ℕ) → t < length A → e < length (at A t) →
       nth (meet_bands xs ys) (t * c + e) ≡ common (band_at A t e) (band_at B t e)
   at-place t e k l =
       meet_at xs ys (t * c + e) (place_there n c xs A a size t k e l) (as_long n c m d xs ys A B a b size other h)
-      ∙ (ap (λ C. common C (nth ys (t * c + e))) (place_is n c xs A a size t k e l)
-      ∙ ap (common (band_at A t e)) (place_is n c ys B cut-other size-other t (subst (λ k. t < k) ticks-other k) e (subst (λ k. e < k) (channels-other t) l)))
+      ∙ (ap (λ C. common C (nth ys (t * c + e))) (own-place t e k l) ∙ ap (common (band_at A t e)) (other-place
+      t e k l))
+
+  -- a place of the lists is a place of the tubes
+  module _ (i : ℕ) (there : i < length xs) where
+    inside : i < n * c
+    inside = subst (λ k. i < k) size there
+
+    pub tick_is_there : i / c < length A
+    tick_is_there = subst (λ k. i / c < k) (sym (sym (ap length a) ∙ cut_counted n c xs)) (below c i n inside)
+
+    pub channel_is_there : i % c < length (at A (i / c))
+    channel_is_there = subst (λ k. i % c < k) (sym (row_length n c xs A a size (i / c) tick_is_there))
+        (channel-below c i n inside)
+
+    -- and an earlier place of the tubes one of the lists before it
+    before-it : (s e : ℕ) → s < length A → e < length (at A s) → IsEarlier s e (i / c) (i % c) → s * c + e < i
+    before-it s e k l before =
+        subst (λ j. s * c + e < j) (div-add-mod' i c) (earlier c s e (i / c) (i % c) (channel_there n c xs A a
+        size s k e l) before)
+
+    pub tick_fits : i / c < n
+    tick_fits = below c i n inside
 
   -- the first place of the lists is the first place of the tubes
   pub first_is : (i : ℕ) → IsFirstApart (Some i) xs ys → IsFirstEmpty A B (i / c) (i % c)
   first_is i found = record {
-    tick = tick;
-    channel = channel;
-    empty = λ common. found.1 (subst IsBand (sym (at-place (i / c) (i % c) tick channel) ∙ ap (nth (meet_bands xs ys)) (div-add-mod' i c)) (has-common _ _ common));
-    first = λ s d k l before. common-has _ _ (subst IsBand (at-place s d k l) (found.2 (s * c + d)
-        (subst (λ j. s * c + d < j) (div-add-mod' i c) (earlier c s d (i / c) (i % c) (channel_there n c xs A a size s k d l) before))));
+    tick = tick_is_there i found.0;
+    channel = channel_is_there i found.0;
+    empty = λ common. found.1 (subst IsBand
+        (sym (at-place (i / c) (i % c) (tick_is_there i found.0) (channel_is_there i found.0)) ∙ ap (nth
+        (meet_bands xs ys)) (div-add-mod' i c))
+        (has-common _ _ common));
+    first = λ s d k l before. common-has _ _ (subst IsBand (at-place s d k l) (found.2 (s * c + d) (before-it i
+        found.0 s d k l before)));
   }
-    where
-      inside : i < n * c
-      inside = subst (λ k. i < k) size found.0
 
-      tick : i / c < length A
-      tick = subst (λ k. i / c < k) (sym (sym (ap length a) ∙ cut_counted n c xs)) (below c i n inside)
+  pub first_difference_is : (i : ℕ) → IsFirstDifferent (Some i) xs ys → IsFirstDifference A B (i / c) (i % c)
+  first_difference_is i found = record {
+    tick = tick_is_there i found.0;
+    channel = channel_is_there i found.0;
+    differ = λ same. found.1 (
+        sym (ap (nth xs) (div-add-mod' i c))
+        ∙ (own-place (i / c) (i % c) (tick_is_there i found.0) (channel_is_there i found.0)
+        ∙ (same
+        ∙ (sym (other-place (i / c) (i % c) (tick_is_there i found.0) (channel_is_there i found.0)) ∙ ap (nth
+        ys) (div-add-mod' i c)))));
+    first = λ s d k l before.
+        sym (own-place s d k l) ∙ (found.2 (s * c + d) (before-it i found.0 s d k l before) ∙ other-place s d k l);
+  }
 
-      channel : i % c < length (at A (i / c))
-      channel = subst (λ k. i % c < k) (sym (row_length n c xs A a size (i / c) tick)) (channel-below c i n inside)
+  -- one list is one tube
+  pub same_tubes : xs ≡ ys → A ≡ B
+  same_tubes e = sym a ∙ (ap (cut n c) e ∙ cut-other)

@@ -1,5 +1,5 @@
 -- Words of the proofs: a reader of the contracts needs none of them.
-use Rattle.std.specs.Prelude.{ℕ, ◌<◌, pos, ◌-ℤ◌, nat_abs, List, ◌++◌, length, take, drop, slice_index_or, Option, Some, None, Bool, int_le}
+use Rattle.std.specs.Prelude.{◌≡◌, ◌≢◌, ℕ, ◌<◌, pos, ◌-ℤ◌, nat_abs, List, ◌++◌, length, take, drop, slice_index_or, Option, Some, None, Bool, int_le}
 use Rattle.std.specs.Int.{int_min, int_max}
 use Rattle.quant.specs.Interval.{Interval, AllBands, IsBand, point}
 use Rattle.relaxation.specs.Tube.{meet_bands}
@@ -27,3 +27,8 @@ abbrev pub IsFirstApart : Option ℕ → List Interval → List Interval → Typ
 IsFirstApart None As Bs = AllBands (meet_bands As Bs)
 IsFirstApart (Some i) As Bs =
     (i < length As) × (IsBand (nth (meet_bands As Bs) i) → ⊥) × ((j : ℕ) → j < i → IsBand (nth (meet_bands As Bs) j))
+
+-- the first place at which two lists have different bands, or none
+abbrev pub IsFirstDifferent : Option ℕ → List Interval → List Interval → Type 0
+IsFirstDifferent None As Bs = As ≡ Bs
+IsFirstDifferent (Some i) As Bs = (i < length As) × (nth As i ≢ nth Bs i) × ((j : ℕ) → j < i → nth As j ≡ nth Bs j)

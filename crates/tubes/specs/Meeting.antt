@@ -1,5 +1,5 @@
 -- What meeting a tube with another answers, and what it leaves.
-use Rattle.std.specs.Prelude.{◌≡◌, ◌⊎◌, ℕ, ◌<◌, ℤ, true, false, length}
+use Rattle.std.specs.Prelude.{◌≡◌, ◌≢◌, ◌⊎◌, ℕ, ◌<◌, ℤ, true, false, length}
 use Rattle.quant.specs.Interval.{Interval, Holds}
 use Rattle.relaxation.specs.Tube.{Tube, at, is_within, HasNumbers, meet}
 use Rattle.tubes.specs.Shape.{band_at}
@@ -21,6 +21,13 @@ pub record IsFirstEmpty (A B : Tube) (t c : ℕ) : Type 0 where
   pub empty : HasCommon (band_at A t c) (band_at B t c) → ⊥
   pub first : (s d : ℕ) → s < length A → d < length (at A s) → IsEarlier s d t c →
       HasCommon (band_at A s d) (band_at B s d)
+
+-- the first place at which two tubes have different bands
+pub record IsFirstDifference (A B : Tube) (t c : ℕ) : Type 0 where
+  pub tick : t < length A
+  pub channel : c < length (at A t)
+  pub differ : band_at A t c ≢ band_at B t c
+  pub first : (s d : ℕ) → s < length A → d < length (at A s) → IsEarlier s d t c → band_at A s d ≡ band_at B s d
 
 -- The meet has a number at each place, and is left where the tube does not lie in the other already; or it is empty at a
 -- first place, and the tube stays.

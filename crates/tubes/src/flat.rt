@@ -5,7 +5,7 @@ ghost use Rattle.std.specs.List.{sum_by};
 ghost use Rattle.quant.specs.Interval.{Interval, AllBands, IsBand, point};
 ghost use Rattle.relaxation.specs.Tube.{all_inside, meet_bands};
 ghost use Rattle.tubes.specs.Cut.{cut};
-ghost use Rattle.tubes.specs.Flat.{IsFirstApart, common, has_number, nth, reach, written};
+ghost use Rattle.tubes.specs.Flat.{IsFirstApart, IsFirstDifferent, common, has_number, nth, reach, written};
 
 use quant::Band;
 use std::alloc::{AllocError, Global};
@@ -79,6 +79,19 @@ pub(crate) fn first_empty(bands: &[Band], others: &[Band]) -> Option<usize>
 {
     for (place, band) in bands.iter().enumerate() {
         if !have_common(*band, others[place]) {
+            return Some(place);
+        }
+    }
+    None
+}
+
+/// The first place at which two lists have different bands.
+pub(crate) fn first_difference(bands: &[Band], others: &[Band]) -> Option<usize>
+    requires { length bands.now ≡ length others.now }
+    ensures { IsFirstDifferent result bands.now others.now }
+{
+    for (place, band) in bands.iter().enumerate() {
+        if *band != others[place] {
             return Some(place);
         }
     }

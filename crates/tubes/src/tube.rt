@@ -35,10 +35,10 @@ impl Model for Tube {
 }
 
 impl Tube {
-    ghost use Rattle.std.specs.Prelude.{◌≡◌, ◌↔◌, ◌<◌, ◌^◌, true, length, replicate, slice_set, IfOk};
+    ghost use Rattle.std.specs.Prelude.{◌≡◌, ◌↔◌, ◌<◌, ◌^◌, true, length, replicate, slice_set, IfOk, IfSome, IfNone};
     ghost use Rattle.relaxation.specs.Tube.{at, is_within, width};
     ghost use Rattle.tubes.specs.Shape.{HasShapeOf, band_at, set_at};
-    ghost use Rattle.tubes.specs.Meeting.{Meets};
+    ghost use Rattle.tubes.specs.Meeting.{Meets, IsFirstDifference};
 
     /// A tube of `n` ticks with a channel for each limit, and each place at its limit.
     pub fn filled(alloc: Global, n: u32, limits: &[Band]) -> Result<Self, AllocError>
@@ -84,6 +84,18 @@ impl Tube {
         ensures { result ≡ is_within self.now other.now }
     {
         flat::all_inside(self.bands.as_slice(), other.bands.as_slice())
+    }
+
+    /// The first place, by tick and then by channel, at which two tubes of one shape have different bands.
+    pub fn first_difference(&self, other: &Tube) -> Option<(u32, u32)>
+        requires shape { HasShapeOf self.now other.now }
+        ensures same { IfNone result (self.now ≡ other.now) }
+        ensures place { IfSome result (λ place. IsFirstDifference self.now other.now place.0 place.1) }
+    {
+        let place = flat::first_difference(self.bands.as_slice(), other.bands.as_slice())?;
+        let row = self.channels as usize;
+        prove!(place / row < self.ticks as usize);
+        Some(((place / row) as u32, (place % row) as u32))
     }
 
     /// The sum of `hi - lo` over all places.
