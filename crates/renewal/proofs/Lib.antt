@@ -5,3 +5,4 @@ pub mod RoomShapes
 pub mod Shapes
 pub mod Spread
 pub mod Windows
+pub mod Carrying

@@ -33,7 +33,7 @@ shapes-counted limits tubes n e =
     sym (length-map tubes (map length)) ∙ (ap length e ∙ length-map limits (λ bands. replicate n (length bands)))
 
 -- tubes that have the same at each tick are the same
-same-ticks : (f g : ℕ → List Interval) (n : ℕ) → ((t : ℕ) → t < n → f t ≡ g t) → tube_of f n ≡ tube_of g n
+pub same-ticks : (f g : ℕ → List Interval) (n : ℕ) → ((t : ℕ) → t < n → f t ≡ g t) → tube_of f n ≡ tube_of g n
 same-ticks f g n h = within-both (tube_of f n) (tube_of g n)
     (tube-within f g n (λ t m. subst (AllInside (f t)) (h t m) (inside-itself (f t))))
     (tube-within g f n (λ t m. subst (λ (row : List Interval). AllInside row (f t)) (h t m) (inside-itself (f t))))

@@ -3,3 +3,4 @@ pub mod Plan
 pub mod Room
 pub mod Giver
 pub mod Ticks
+pub mod Carrying

@@ -48,6 +48,12 @@ pub record AreWithin (bands limits : List Interval) : Type 0 where
   pub numbers : AllBands bands
   pub inside : AllInside bands limits
 
+-- of each unit of the plant, bands inside the limits of its states
+pub record AreCarried (parts : FileParts) (carried : List (List Interval)) : Type 0 where
+  pub counted : length carried ≡ length (units_of parts)
+  pub within : (u : ℕ) → u < length (units_of parts) →
+      AreWithin (slice_index_or carried u []) (unit_at (plant_of parts) u).state_limits
+
 -- The ticks are the plant's, 1 to 64 of them; the bands carried into each unit lie in the limits of its states, and
 -- those of each feed in its own.
 pub record IsPlan (plan : PlanOf) : Type 0 where

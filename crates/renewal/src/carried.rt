@@ -36,6 +36,17 @@ impl Carried {
         Ok(Carried::new(plant.opening_states(alloc)?))
     }
 
+    /// The same bands.
+    pub fn copied(&self, alloc: Global) -> Result<Self, AllocError>
+        ensures { IfOk result (λ carried. carried ≡ self.now) }
+    {
+        let mut units = Vec::with_capacity(alloc, self.units.len())?;
+        for bands in &self.units {
+            units.push(Bands::from_slice(alloc, bands.as_slice())?)?;
+        }
+        Ok(Carried::new(units))
+    }
+
     /// The bands of a unit's states.
     pub fn unit(&self, unit: u32) -> &[Band]
         requires { unit < length self.now }

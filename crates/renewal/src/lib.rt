@@ -2,6 +2,7 @@
 #![tactic(auto)]
 
 mod carried;
+mod ends;
 mod laws;
 mod opening;
 mod plan;
@@ -9,7 +10,8 @@ mod renewing;
 mod rooms;
 
 pub use carried::Carried;
-pub use laws::{tubes_stay_opened, windows_are_open};
+pub use ends::carry;
+pub use laws::{tubes_stay_opened, windows_are_open, windows_carry_the_run, windows_keep_limits};
 pub use opening::opening_tube;
 pub use plan::WindowPlan;
 pub use renewing::renew;

@@ -1,14 +1,17 @@
 //! The room that a unit's renewals are made in, taken once for all of them.
 
 ghost use Rattle.std.specs.Prelude.{◌≡◌, ◌<◌, ◌≤◌, ◌+◌, true, [], length, map, slice_index_or, slice_set, IfOk};
+ghost use Rattle.std.specs.List.{range_with_len};
 ghost use Rattle.quant.specs.Interval.{AllInside};
 ghost use Rattle.relaxation.specs.Tube.{at};
 ghost use Rattle.relaxation.specs.Window.{Window};
+ghost use Rattle.plant_streams.specs.Streams.{streams_of};
 ghost use Rattle.plant_units.specs.Units.{units_of, state_limits_of, is_instant, IsUnitSound, MayTake};
 ghost use Rattle.plant_units.specs.Steps.{width_of, views, steps};
 ghost use Rattle.tubes.specs.Shape.{HasShapeOf};
 ghost use Rattle.renewal.specs.Plan.{window_of};
-ghost use Rattle.renewal.specs.Room.{planned, HasRoomFor};
+ghost use Rattle.renewal.specs.Room.{planned, AreOpened, HasRoomFor};
+ghost use Rattle.renewal.specs.Carrying.{read_by};
 ghost use Rattle.renewal.specs.Ticks.{spread_at, AreFilled};
 
 use crate::opening::opening_tube;
@@ -76,6 +79,25 @@ impl Inputs {
             tubes.push(opening_tube(alloc, plan, *stream)?)?;
         }
         Ok(Inputs { tubes })
+    }
+
+    /// Of these tubes of all streams, copies of those that a unit reads.
+    pub(crate) fn of(
+        alloc: Global,
+        plan: &WindowPlan<'_>,
+        unit: u32,
+        tubes: &[Tube],
+    ) -> Result<Self, AllocError>
+        requires unit { unit < length (units_of plan.now.parts) }
+        requires tubes { AreOpened plan.now (range_with_len 0 (length (streams_of plan.now.parts))) tubes.now }
+        ensures read { IfOk result (λ inputs. inputs ≡ read_by plan.now unit tubes.now) }
+        ensures opened { IfOk result (AreOpened plan.now (planned plan.now unit).reads) }
+    {
+        let mut made = Vec::new(alloc);
+        for stream in plan.unit(unit).inputs() {
+            made.push(tubes[*stream as usize].copied(alloc)?)?;
+        }
+        Ok(Inputs { tubes: made })
     }
 
     pub fn as_slice(&self) -> &[Tube]
