@@ -1,15 +1,17 @@
 -- Some ticks of a plant's run are a window plan, whose run is the plant's at these ticks.
 use Rattle.std.proofs.Common.{◌≡◌, ◌∙◌, ℕ, ◌+◌, ◌<◌, ◌≤◌, List, [], length, map, sym, subst, ap, refl, arith}
+use Rattle.std.specs.Prelude.{slice_index_or}
 use Rattle.std.proofs.lemmas.List.{length-map}
 use Rattle.std.proofs.lemmas.List.FromFn.{get_or-map-range_with_len, length-map-range_with_len, fill_by_all}
 use Rattle.quant.specs.Interval.{Interval}
 use Rattle.flowsheet.specs.Plant as sheet
 use Rattle.flowsheet.specs.Reading.{on_bands}
+use Rattle.flowsheet.specs.Run.{run_states}
 use Rattle.flowsheet.proofs.Readings.{Same, same-kept}
-use Rattle.flowsheet.proofs.Runs.{AreGiven, streams-related, states-bands}
+use Rattle.flowsheet.proofs.Runs.{AreGiven, streams-related, states-related, states-bands}
 use Rattle.flowsheet.proofs.Limits.{states-limited}
-use Rattle.flowsheet.proofs.Joins.{joined_streams}
-use Rattle.relaxation.specs.Tube.{at, tube_of}
+use Rattle.flowsheet.proofs.Joins.{joined_states, joined_streams}
+use Rattle.relaxation.specs.Tube.{Tube, at, tube_of}
 use Rattle.relaxation.specs.Window.{run_tube}
 use Rattle.relaxation.proofs.Ticks.{at-tube_of, length-tube_of}
 use Rattle.parts.specs.Parts.{FileParts}
@@ -23,9 +25,11 @@ use Rattle.plant.specs.Rows.{states_of_run, streams_of_run}
 use Rattle.plant.specs.Sound.{IsPlant}
 use Rattle.plant.proofs.Lookups.{origin-is, units-counted, streams-counted}
 use Rattle.plant.proofs.PlantLaws.{plant-sound, parts-ranked, parts-limited, parts-bands, parts-fed}
-use Rattle.renewal.specs.Plan.{IsPlan, AreWithin, carried_into, fed_by, window_of}
+use Rattle.renewal.specs.Plan.{PlanOf, IsPlan, AreCarried, AreWithin, carried_into, fed_by, window_of}
 use Rattle.renewal.proofs.Windows.{feed-there}
-use Rattle.feeds.specs.Given.{run_plan}
+use Rattle.renewal.specs.Carrying.{states_after}
+use Rattle.renewal.proofs.Shapes.{same-ticks}
+use Rattle.feeds.specs.Given.{given_tubes, run_plan}
 
 -- the states of the run at the first tick are carried into each unit
 carried-is : (parts : FileParts) (first n u : ℕ) → u < length (units_of parts) →
@@ -118,3 +122,42 @@ module _ (parts : FileParts) (first n : ℕ) (plant : IsPlant parts) where
 pub opening-is : (parts : FileParts) (n : ℕ) → (run_plan parts 0 n).carried ≡ map opening_of (units_of parts)
 opening-is parts n = sym (fill_by_all (states_of_run parts 0) (map opening_of (units_of parts))
     (length (units_of parts)) [] (length-map (units_of parts) opening_of) (λ u l. refl))
+
+-- the states that a window of the run leaves are the run's
+states-left : (parts : FileParts) (first n : ℕ) → IsPlant parts → IsPlan (run_plan parts first n) → (u : ℕ) →
+    u < length (units_of parts) →
+    run_states (on_bands (plant_of parts)) (plant_of parts) (carried_into (run_plan parts first n))
+    (window_of (run_plan parts first n)).feeds n u ≡ states_of_run parts (first + n) u
+states-left parts first n plant plan u l =
+    states-related (plant_of parts) n (carried_into (run_plan parts first n))
+    (λ q f. at (fed_by (run_plan parts first n) f) q) (states_of_run parts first)
+    (λ q. given_bands parts (first + q)) (same-kept (on_bands (plant_of parts))) (parts-ranked parts plant)
+    (window-given parts first n plant plan) n u (omega arith) (subst (λ k. u < k) (sym (units-counted parts)) l)
+    ∙ ap (λ f. f u) (joined_states (on_bands (plant_of parts)) (plant_of parts) (carried_of parts)
+    (given_bands parts) first n)
+
+pub joined : (parts : FileParts) (first n m : ℕ) → IsPlant parts → 1 ≤ n → n ≤ 64 → first + n ≤ parts.ticks →
+    states_after (run_plan parts first n) ≡ (run_plan parts (first + n) m).carried
+joined parts first n m plant some few inside =
+    same-ticks _ (states_of_run parts (first + n)) (length (units_of parts))
+    (states-left parts first n plant (is-plan parts first n plant some few inside))
+
+-- given tubes can be planned, with whatever is carried in inside the limits
+pub given-planned : (plan : PlanOf) → IsPlant plan.parts → 1 ≤ plan.ticks → plan.ticks ≤ 64 →
+    plan.first + plan.ticks ≤ plan.parts.ticks → AreCarried plan.parts plan.carried →
+    plan.feeds ≡ given_tubes plan.parts plan.first plan.ticks → IsPlan plan
+given-planned plan plant some few inside carried given =
+    let of_run = is-plan plan.parts plan.first plan.ticks plant some few inside in
+    record {
+      plant = plant;
+      some = some;
+      few = few;
+      inside = inside;
+      units = carried.counted;
+      carried = carried.within;
+      feeds = ap length given ∙ of_run.feeds;
+      ticked = λ f l. ap (λ (tubes : List Tube). length (slice_index_or tubes f [])) given ∙ of_run.ticked f l;
+      fed = λ f t l m. subst (λ (tubes : List Tube). AreWithin (at (slice_index_or tubes f []) t) (limits_at
+          plan.parts f))
+          (sym given) (of_run.fed f t l m);
+    }

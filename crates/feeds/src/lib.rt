@@ -3,6 +3,8 @@
 
 mod given;
 mod laws;
+mod reader;
 
 pub use given::given_tubes;
-pub use laws::windows_cut_the_run;
+pub use laws::{given_feeds_can_be_planned, windows_cut_the_run, windows_join};
+pub use reader::{FeedFault, FeedReader};
