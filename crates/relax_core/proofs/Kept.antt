@@ -1,8 +1,9 @@
 -- What a board keeps stays with a step: its renewal is remembered in the room, and the numbers by the stream.
-use Rattle.std.proofs.Common.{◌≡◌, ◌∙◌, ℕ, List, [], length-set, sym, subst, arith, Ok}
+use Rattle.std.proofs.Common.{◌≡◌, ◌∙◌, ◌<◌, ℕ, List, [], length, length-set, sym, subst, arith, Ok}
 use Rattle.std.specs.Prelude.{Result, slice_set, slice_index_or, Option, Some}
 use Rattle.relaxation.specs.Tube.{Tube}
 use Rattle.relaxation.specs.Core.{Versions, named, AreThere}
+use Rattle.plant_units.specs.Units.{units_of}
 use Rattle.renewal.specs.Room.{planned, renewal_of}
 use Rattle.relax_core.specs.Board.{RowOf, BoardOf}
 use Rattle.relax_core.specs.Making.{IsPortOf, Appends}
@@ -59,3 +60,20 @@ module _ (board : BoardOf) (rooms : List Room) (met : List (Option (List ℕ))) 
             (appended-idle board kept.steps s numbers u p given there room.outputs renewed tube at made more longer h) next.met;
         order = next.order;
       }
+
+-- A renewal of a unit from versions that are there is remembered in its room, and all else stays.
+pub kept-renewed : (board : BoardOf) (rooms : List Room) (met : List (Option (List ℕ))) (order : List ℕ) →
+    IsKept board rooms met order → (u : ℕ) → u < length (units_of board.plan.parts) → (numbers : List ℕ) →
+    AreThere board.versions (planned board.plan u).reads numbers → (room : Room) → IsRoomFor board.plan u room →
+    room.outputs ≡ renewal_of board.plan u (named board.versions (planned board.plan u).reads numbers) →
+    room.renewed ≡ Some numbers → IsKept board (slice_set rooms u room) met order
+kept-renewed board rooms met order kept u l numbers there room fits renewed memory = record {
+  steps = kept.steps;
+  few = kept.few;
+  rooms = rooms-set board.plan u room rooms kept.rooms l fits;
+  renewed = renewed-set board.plan board.versions u room rooms kept.rooms kept.renewed l
+      (subst (IsRenewedFrom board.plan board.versions u room.outputs) (sym memory) (there, renewed));
+  counted = kept.counted;
+  met = kept.met;
+  order = kept.order;
+}

@@ -1,4 +1,5 @@
 pub mod Boards
+pub mod Carried
 pub mod Counts
 pub mod Kept
 pub mod Lasts

@@ -1,5 +1,5 @@
 -- Where a meet has numbers, meeting a tube with another leaves it.
-use Rattle.std.proofs.Common.{◌≡◌, ◌∙◌, ℕ, zero, suc, ◌<◌, List, [], ◌∷◌, length, sym, ap, subst, arith, true}
+use Rattle.std.proofs.Common.{◌≡◌, ◌∙◌, ℕ, zero, suc, ◌<◌, List, [], ◌∷◌, length, refl, sym, ap, subst, arith, true}
 use Rattle.quant.specs.Interval.{Interval, AllBands, IsBand}
 use Rattle.relaxation.specs.Tube.{Tube, at, is_within, HasNumbers, meet, meet_bands}
 use Rattle.relaxation.proofs.Meets.{within-yes, meet-wider}
@@ -32,3 +32,11 @@ met-is met.Same A B old new e shape numbers h =
 met-is (met.Empty t c) A B old new e shape numbers h =
     let first = subst (λ tube. IsFirstEmpty tube B t c) e h.0 in
     absurd (first.empty (common-has _ _ (place-common A B t c numbers shape first.tick first.channel)))
+
+-- tubes of one shape have as many channels at each tick
+pub shape_at : (A B : Tube) (t : ℕ) → HasShapeOf A B → length (at A t) ≡ length (at B t)
+shape_at [] [] t e = refl
+shape_at [] (B ∷ Bs) t e = absurd cc
+shape_at (A ∷ As) [] t e = absurd cc
+shape_at (A ∷ As) (B ∷ Bs) zero e = cc
+shape_at (A ∷ As) (B ∷ Bs) (suc t) e = shape_at As Bs t (cc)

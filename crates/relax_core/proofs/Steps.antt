@@ -1,5 +1,5 @@
 -- A step on a board: it is legal, and what is appended makes the board after it.
-use Rattle.std.proofs.Common.{◌≡◌, ◌∙◌, ℕ, ◌<◌, ◌^◌, List, [], ◌∷◌, ◌++◌, length, refl}
+use Rattle.std.proofs.Common.{◌≡◌, ◌∙◌, ℕ, ◌-◌, ◌<◌, ◌^◌, List, [], ◌∷◌, ◌++◌, length, refl}
 use Rattle.std.proofs.Common.{sym, ap, subst, arith, inl, inr, true, false, Ok, Err, get_or-set_same, get_or-set_other}
 use Rattle.std.specs.Prelude.{Result, slice_set, slice_index_or}
 use Rattle.std.proofs.lemmas.Bool.{cases_eq}
@@ -9,6 +9,7 @@ use Rattle.relaxation.specs.Window.{Window, renewal, run_tube}
 use Rattle.relaxation.specs.Core.{Versions, Step, versions_of, last_of, named, AreThere}
 use Rattle.relaxation.specs.Core.{origin_renewal, step_renewal, IsLegalFrom, IsLegal, is_idle, after_step}
 use Rattle.relaxation.proofs.Growth.{AreGrown, grown_itself, step-grown, done-idle}
+use Rattle.relaxation.proofs.Meets.{meet-left}
 use Rattle.relaxation.proofs.Sequences.{after-idle, after-narrows}
 use Rattle.relaxation.proofs.Stays.{legal-stays}
 use Rattle.relaxation.proofs.States.{step-numbers, renewal-holds, last-holds}
@@ -22,7 +23,7 @@ use Rattle.relax_core.specs.declared.board.Stepped.{Stepped}
 use Rattle.relax_core.specs.declared.board.Stepped.TheVariants as stepped
 use Rattle.relax_core.specs.declared.board.StepFault.{StepFault}
 use Rattle.relax_core.specs.declared.board.StepFault.TheVariants as fault
-use Rattle.relax_core.proofs.Boards.{board-open, board-kept, stream-below, after-is, board_of}
+use Rattle.relax_core.proofs.Boards.{board-open, board-kept, stream-below, some-version, versions-within, after-is, board_of}
 use Rattle.relax_core.proofs.Readings.{within-shape}
 use Rattle.relax_core.proofs.Renewals.{port-is}
 
@@ -66,6 +67,23 @@ module _ (board : BoardOf) (is : IsBoard board) (s : ℕ) (numbers : List ℕ) (
         (last-holds window (board-open board is) board.versions (board-kept board is) s (stream-below board is s given.stream)))
         ∙ within-shape (run_tube window s) tube (subst (IsWithin (run_tube window s)) (sym renews)
         (renewal-holds window (board-open board is) board.versions (board-kept board is) step step-legal))
+
+    pub step-meet : meet (last_of board.versions s) tube
+        ≡ meet (last_of board.versions s) (step_renewal (window_of board.plan) board.versions step)
+    step-meet = ap (meet (last_of board.versions s)) renews
+
+    -- which has the shape that the stream opens with
+    pub step-opened : HasShapeOf (meet (last_of board.versions s) tube) ((window_of board.plan).opening s)
+    step-opened =
+        let last : Tube = last_of board.versions s in
+        let below = stream-below board is s given.stream in
+        within-shape (meet last tube) last
+        (meet-left (run_tube window s) last tube
+        (last-holds window (board-open board is) board.versions (board-kept board is) s below)
+        (subst (IsWithin (run_tube window s)) (sym renews)
+        (renewal-holds window (board-open board is) board.versions (board-kept board is) step step-legal)))
+        ∙ within-shape last (window.opening s) (versions-within board is s (length (versions_of board.versions s) - 1)
+        given.stream (omega (arith, some-version board is s given.stream)))
 
     idle-as : {b : _} → is_within (last_of board.versions s) tube ≡ b → is_idle window board.versions step ≡ b
     idle-as e = ap (is_within (last_of board.versions s)) (sym renews) ∙ e

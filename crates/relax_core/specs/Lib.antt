@@ -1,4 +1,6 @@
+pub mod Adopting
 pub mod Board
+pub mod Judging
 pub mod Making
 pub mod Order
 pub mod Rooms
@@ -6,3 +8,4 @@ pub mod Settled
 pub mod Settling
 pub mod Stepping
 pub mod Turns
+pub mod UnitStates

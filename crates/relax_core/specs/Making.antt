@@ -4,14 +4,14 @@ use Rattle.std.specs.Prelude.{◌≡◌, ◌+◌, ◌<◌, ◌^◌, ℕ, true, f
 use Rattle.std.specs.Prelude.{Result, Ok, Err, Option, Some, None}
 use Rattle.flowsheet.specs.Plant.{port, origin_of}
 use Rattle.relaxation.specs.Tube.{Tube, IsWithin, is_within, meet}
-use Rattle.relaxation.specs.Core.{Versions, versions_of, version_at, last_of, AreThere}
+use Rattle.relaxation.specs.Core.{Versions, Step, versions_of, version_at, last_of, AreThere, step_renewal, IsLegal}
 use Rattle.plant_streams.specs.Streams.{streams_of}
 use Rattle.plant_units.specs.Units.{units_of}
 use Rattle.plant.specs.PlantOf.{plant_of}
 use Rattle.renewal.specs.Plan.{PlanOf, window_of}
 use Rattle.renewal.specs.Room.{planned}
 use Rattle.relax_core.specs.Board.{RowOf, BoardOf}
-use Rattle.relax_core.specs.Stepping.{IsFirstMissing}
+use Rattle.relax_core.specs.Stepping.{reads_for, IsFirstMissing}
 use Rattle.relax_core.specs.declared.board.Stepped.{Stepped}
 use Rattle.relax_core.specs.declared.board.Stepped.TheVariants as stepped
 use Rattle.relax_core.specs.declared.board.StepFault.{StepFault}
@@ -47,3 +47,11 @@ Appends (Ok stepped.Same) s tube numbers state rows more longer =
     (is_within (last_of state s) tube ≡ true) × (more ≡ state) × (longer ≡ rows)
 Appends (Err (fault.NoSuchVersion input wanted have)) s tube numbers state rows more longer = ⊥
 Appends (Err fault.NoMemory) s tube numbers state rows more longer = (more ≡ state) × (longer ≡ rows)
+
+-- the meet of the last version of a step's stream with its renewal; or a version that the step names is not there
+abbrev pub MeetsFrom : Result Tube StepFault → BoardOf → Step → Type 0
+MeetsFrom (Ok tube) board step = IsLegal (window_of board.plan) board.versions step
+    × (tube ≡ meet (last_of board.versions step.stream) (step_renewal (window_of board.plan) board.versions step))
+MeetsFrom (Err (fault.NoSuchVersion input wanted have)) board step =
+    IsFirstMissing board (reads_for board.plan step.stream) step.inputs input wanted have
+MeetsFrom (Err fault.NoMemory) board step = Unit {0}

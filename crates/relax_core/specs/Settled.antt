@@ -1,6 +1,7 @@
 -- A settled window: the tubes that its streams were narrowed to, and the rows of the steps that narrowed them.
-use Rattle.std.specs.Prelude.{◌≡◌, ◌+◌, ◌<◌, ◌≤◌, ℕ, List, [], length, map, slice_index_or}
+use Rattle.std.specs.Prelude.{◌≡◌, ◌+◌, ◌-◌, ◌<◌, ◌≤◌, ℕ, List, [], length, map, slice_index_or}
 use Rattle.std.specs.List.{range_with_len, AllByRecursion}
+use Rattle.quant.specs.Interval.{Interval}
 use Rattle.relaxation.specs.Tube.{Tube, at}
 use Rattle.relaxation.specs.Window.{Window}
 use Rattle.relaxation.specs.Core.{opening_versions, last_of, reached, AreLegal, AreNarrowing, IsQuiet}
@@ -16,6 +17,10 @@ pub record WindowOf : Type 0 where
   -- of each stream
   pub tubes : List Tube
   pub steps : List RowOf
+
+-- the bands of a stream at a tick of the plant
+abbrev pub bands_in : WindowOf → ℕ → ℕ → List Interval
+bands_in window tick s = at (slice_index_or window.tubes s []) (tick - window.first)
 
 -- the last version of each stream of a board, and its rows
 abbrev pub window_on : BoardOf → WindowOf

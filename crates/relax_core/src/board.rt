@@ -3,8 +3,13 @@ ghost use Rattle.std.specs.Bool.{OnTrue};
 ghost use Rattle.plant_streams.specs.Streams.{streams_of};
 ghost use Rattle.plant.specs.PlantOf.{plant_of};
 ghost use Rattle.flowsheet.specs.Plant.{origin_of};
-ghost use Rattle.relaxation.specs.Core.{versions_of, last_of, IsLegal, is_idle};
+ghost use Rattle.relaxation.specs.Tube.{at};
+ghost use Rattle.relaxation.specs.Core.{versions_of, last_of, named, AreThere, IsLegal, is_idle};
+ghost use Rattle.plant_units.specs.Units.{units_of};
+ghost use Rattle.tubes.specs.Shape.{HasShapeOf};
+ghost use Rattle.renewal.specs.Room.{planned, renewal_of};
 ghost use Rattle.relax_core.specs.Board.{IsBoard, opening_board};
+ghost use Rattle.relax_core.specs.Making.{MeetsFrom};
 ghost use Rattle.relax_core.specs.Order.{IsOrder};
 ghost use Rattle.relax_core.specs.Rooms.{AreNewRooms};
 ghost use Rattle.relax_core.specs.Settled.{window_on};
@@ -13,12 +18,13 @@ ghost use Rattle.relax_core.specs.Stepping.{reads_for, IsOutputOf, Steps};
 
 use crate::givers::giver;
 use crate::lines::Lines;
-use crate::making::{append, missing};
+use crate::making::{append, met, missing};
 use crate::order::{STREAMS, flow_order};
 use crate::refs::{Refs, remembers};
 use crate::room::Room;
 use crate::sizes::unit_count;
 use crate::window::Window;
+use plant::Bands;
 use renewal::WindowPlan;
 use std::alloc::{AllocError, Global};
 use std::marker::Model;
@@ -234,5 +240,49 @@ impl<'p> Board<'p> {
         )?;
         self.met[stream as usize] = Some(Refs::of(versions));
         Ok(stepped)
+    }
+
+    /// The meet of a stream's last version with its renewal from the versions with these numbers of what its unit
+    /// reads.
+    pub(crate) fn meet_from(
+        &mut self,
+        alloc: Global,
+        stream: u32,
+        versions: &[u32],
+    ) -> Result<Tube, StepFault>
+        requires stream { stream < length (streams_of self.old.plan.parts) }
+        requires given { IsOutputOf (origin_of (plant_of self.old.plan.parts) stream) }
+        requires counted { length versions.now ≡ length (reads_for self.old.plan stream) }
+        ensures meet { MeetsFrom result self.old (record { stream = stream; inputs = versions.now }) }
+        ensures shape { IfOk result (λ meet. HasShapeOf meet ((window_of self.old.plan).opening stream)) }
+        ensures stays { self.new ≡ self.old }
+    {
+        let (unit, port) = giver(self.plan, stream);
+        if let Some(fault) = missing(self.plan, unit, &self.lines, versions) {
+            return Err(fault);
+        }
+        let room = &mut self.rooms[unit as usize];
+        room.renew(self.plan, unit, &self.lines, versions);
+        Ok(met(alloc, self.lines.last(stream), room.outputs.port(port))?)
+    }
+
+    /// The bands of a unit's states at the tick after the window, by its renewal from the versions with these numbers
+    /// of what it reads.
+    pub(crate) fn states_from(
+        &mut self,
+        alloc: Global,
+        unit: u32,
+        versions: &[u32],
+    ) -> Result<Bands, AllocError>
+        requires unit { unit < length (units_of self.old.plan.parts) }
+        requires there { AreThere self.old.versions (planned self.old.plan unit).reads versions.now }
+        requires few { length versions.now ≤ 8 }
+        ensures states { IfOk result (λ states. states ≡ at (renewal_of self.old.plan unit
+            (named self.old.versions (planned self.old.plan unit).reads versions.now)).states self.old.plan.ticks) }
+        ensures stays { self.new ≡ self.old }
+    {
+        let room = &mut self.rooms[unit as usize];
+        room.renew(self.plan, unit, &self.lines, versions);
+        Bands::from_slice(alloc, room.outputs.states().row(self.plan.ticks()))
     }
 }

@@ -5,6 +5,7 @@ ghost use Rattle.relaxation.specs.Window.{Window, run_tube};
 ghost use Rattle.relaxation.specs.Core.{Step, versions_of, version_at, last_of, step_renewal, IsLegal, is_idle, IsQuiet};
 ghost use Rattle.plant_streams.specs.Streams.{streams_of};
 ghost use Rattle.renewal.specs.Plan.{PlanOf, window_of, IsPlan};
+ghost use Rattle.renewal.specs.Carrying.{carried_from, states_after};
 ghost use Rattle.relax_core.specs.Board.{BoardOf, IsBoard, opening_board, after};
 ghost use Rattle.relax_core.specs.Settled.{window_on, Settles, IsWindow};
 
@@ -58,4 +59,10 @@ pub fn quiet_boards_are_settled()
         (window_on board).tubes
         ≡ map (run_tube (window_of board.plan)) (range_with_len 0 (length (streams_of board.plan.parts))) }
     ensures window { (board : BoardOf) → IsBoard board → IsWindow board.plan.parts (window_on board) }
+{}
+
+/// What a quiet board carries out of its window are the states of the window's run.
+pub fn quiet_boards_carry_the_run()
+    ensures { (board : BoardOf) → IsBoard board → IsQuiet (window_of board.plan) board.versions →
+        carried_from board.plan (window_on board).tubes ≡ states_after board.plan }
 {}

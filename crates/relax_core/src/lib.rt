@@ -3,9 +3,12 @@
 #![tactic(auto)]
 
 mod board;
+mod carrying;
+mod chaos;
 mod givers;
 mod laws;
 mod lines;
+mod made;
 mod making;
 mod order;
 mod refs;
@@ -15,9 +18,12 @@ mod sizes;
 mod window;
 
 pub use board::{Board, StepFault, StepRow, Stepped};
+pub use chaos::{Chaos, NoChaos};
 pub use givers::inputs_for;
 pub use laws::{
-    boards_have_versions, boards_keep_the_run, quiet_boards_are_settled, steps_keep_boards,
+    boards_have_versions, boards_keep_the_run, quiet_boards_are_settled,
+    quiet_boards_carry_the_run, steps_keep_boards,
 };
+pub use made::{AdoptFault, Made};
 pub use refs::Refs;
 pub use window::Window;

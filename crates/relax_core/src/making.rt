@@ -58,7 +58,7 @@ pub(crate) fn missing(
 }
 
 /// The meet of a tube with another, in memory of its own.
-fn met(alloc: Global, tube: &Tube, other: &Tube) -> Result<Tube, AllocError>
+pub(crate) fn met(alloc: Global, tube: &Tube, other: &Tube) -> Result<Tube, AllocError>
     requires shape { HasShapeOf tube.now other.now }
     requires numbers { HasNumbers (meet tube.now other.now) }
     ensures { IfOk result (λ made. made ≡ meet tube.now other.now) }

@@ -21,7 +21,7 @@ use renewal::WindowPlan;
 use std::alloc::{AllocError, Global};
 
 /// The most streams that a unit reads.
-const READS: usize = 8;
+pub(crate) const READS: usize = 8;
 
 /// The greatest of ranks, or 0 where there are none.
 fn greatest_rank(ranks: &[u32]) -> u32
@@ -49,7 +49,7 @@ impl<'p> Board<'p> {
     }
 
     /// Writes the numbers of the last versions of what a unit reads to the front of `numbers`, and tells how many they are.
-    fn last_numbers(&self, unit: u32, numbers: &mut [u32]) -> usize
+    pub(crate) fn last_numbers(&self, unit: u32, numbers: &mut [u32]) -> usize
         requires unit { unit < length (units_of self.now.plan.parts) }
         requires room { length (planned self.now.plan unit).reads ≤ length numbers.old }
         ensures count { result ≤ length numbers.new }

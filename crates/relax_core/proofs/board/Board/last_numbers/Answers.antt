@@ -1,5 +1,5 @@
 -- Each stream that the unit reads is there, and has a last version.
-use Rattle.std.proofs.Common.{◌≡◌, ◌∙◌, ◌-◌, ◌<◌, ℕ, length, take, sym, ap, subst, arith}
+use Rattle.std.proofs.Common.{◌≡◌, ◌∙◌, ◌<◌, ℕ, length, take, sym, ap, subst, arith}
 use Rattle.std.specs.List.{AllByRecursion}
 use Rattle.std.proofs.lemmas.List.{take_all}
 use Rattle.plant_streams.specs.Streams.{streams_of}
@@ -42,7 +42,7 @@ loop-port-preserved c =
     c.loop-port-test.true
     (omega (arith, c.loop-port-test.true, ap length streams, c.requires.room, c.loop-port.auto.numbers))
     c.loop-port.invariant
-    (ap (λ (n : ℕ). n - 1) c.versions.ensures)
+    (omega (arith, c.versions.ensures))
 
 pub returns-clause-numbers : goal.returns-clause-numbers
 returns-clause-numbers c =
