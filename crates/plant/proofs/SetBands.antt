@@ -6,7 +6,7 @@ use Rattle.std.proofs.lemmas.Grind.{get_or-set_at}
 use Rattle.quant.specs.Interval.{Interval, IsInside, AllInside, point}
 use Rattle.parts.specs.Parts.{FileParts}
 use Rattle.plant_streams.specs.Limits.{limit_at, limits_at}
-use Rattle.plant.specs.Rows.{RowBands, stream_in, set_band, IsRow}
+use Rattle.plant.specs.Rows.{RowBands, stream_in, set_band, give_bands, IsRow}
 
 inside-set : (As Bs : List Interval) (n : ℕ) (A : Interval) → AllInside As Bs →
     IsInside A (slice_index_or Bs n (point (pos 0))) →
@@ -43,5 +43,31 @@ set-is-row parts row s c band h r i =
             subst (λ (bands : List Interval). AllInside bands (limits f)) (sym (same f e))
             (subst (λ w. AllInside new (limits w)) (sym e) (inside-set (stream_in row s) (limits s) c band before i))
         | inr ne ↦ subst (λ (bands : List Interval). AllInside bands (limits f)) (sym (other f ne)) (r.feeds f l)
+      ];
+    }
+
+-- and where all of a stream's are given inside theirs
+pub given-is-row : (parts : FileParts) (row : RowBands) (s : ℕ) (bands : List Interval) → s < length row.streams →
+    length bands ≡ length (stream_in row s) → IsRow parts row → AllInside bands (limits_at parts s) →
+    IsRow parts (give_bands row s bands)
+given-is-row parts row s bands h w r i =
+    let after = give_bands row s bands in
+    let same : (t : ℕ) → t ≡ s → stream_in after t ≡ bands = λ t e. get_or-set_at row.streams s t bands [] e h in
+    let other : (t : ℕ) → t ≢ s → stream_in after t ≡ stream_in row t =
+    λ t ne. get_or-set_other row.streams s t bands [] ne in
+    record {
+      counted = r.counted;
+      streams_counted = length-set row.streams s bands ∙ r.streams_counted;
+      channels = λ t l. elim (cases_eq t s) [
+        | inl e ↦ ap length (same t e) ∙ w ∙ ap (λ v. length (stream_in row v)) (sym e) ∙ r.channels t l
+        | inr ne ↦ ap length (other t ne) ∙ r.channels t l
+      ];
+      states = r.states;
+      feeds = λ f l. elim (cases_eq f s) [
+        | inl e ↦
+            subst (λ (given : List Interval). AllInside given (limits_at parts f)) (sym (same f e))
+            (subst (λ v. AllInside bands (limits_at parts v)) (sym e) i)
+        | inr ne ↦ subst (λ (given : List Interval). AllInside given (limits_at parts f)) (sym (other f ne))
+            (r.feeds f l)
       ];
     }

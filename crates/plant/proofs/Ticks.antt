@@ -44,13 +44,13 @@ module _ (parts : FileParts) (ranked : IsRanked (plant_of parts)) (feeds states 
       s l
 
   -- so are all
-  streams-same : (s : ℕ) → s < length (streams_of parts) →
+  pub streams-same : (s : ℕ) → s < length (streams_of parts) →
       streams_at (on_bands (plant_of parts)) (plant_of parts) feeds states s
       ≡ streams_at (on_bands (plant_of parts)) (plant_of parts) others bands s
   streams-same s l = below-same (suc (plant_of parts).top) s l
 
   -- and each state at the next tick
-  stepped-same : (u : ℕ) → u < length (units_of parts) →
+  pub stepped-same : (u : ℕ) → u < length (units_of parts) →
       stepped (on_bands (plant_of parts)) (unit_at (plant_of parts) u) (states u)
       (inputs_of (unit_at (plant_of parts) u) (streams_at (on_bands (plant_of parts)) (plant_of parts) feeds states))
       ≡ stepped (on_bands (plant_of parts)) (unit_at (plant_of parts) u) (bands u)

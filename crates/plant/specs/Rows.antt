@@ -27,6 +27,10 @@ abbrev pub set_band : RowBands → ℕ → ℕ → Interval → RowBands
 set_band row s c band =
     record { states = row.states; streams = slice_set row.streams s (slice_set (stream_in row s) c band) }
 
+-- the row with other bands in all channels of a stream
+abbrev pub give_bands : RowBands → ℕ → List Interval → RowBands
+give_bands row s bands = record { states = row.states; streams = slice_set row.streams s bands }
+
 -- A row of the plant: a band for each state and each channel. The states and the feeds are inside their limits.
 pub record IsRow (parts : FileParts) (row : RowBands) : Type 0 where
   pub counted : length row.states ≡ length (units_of parts)

@@ -1,8 +1,8 @@
 ghost use Rattle.std.specs.Prelude.{◌≡◌, ◌<◌, length, slice_index_or, IfOk, pos};
-ghost use Rattle.quant.specs.Interval.{IsInside, point};
+ghost use Rattle.quant.specs.Interval.{IsInside, AllInside, point};
 ghost use Rattle.parts.specs.Parts.{FileParts};
-ghost use Rattle.plant.specs.Rows.{stream_in, set_band, opening_row, IsRow, IsStep, HasFeedsOf};
-ghost use Rattle.plant_streams.specs.Limits.{limit_at};
+ghost use Rattle.plant.specs.Rows.{stream_in, set_band, give_bands, opening_row, IsRow, IsStep, HasFeedsOf};
+ghost use Rattle.plant_streams.specs.Limits.{limit_at, limits_at};
 
 use crate::plant::Plant;
 use plant_units::Bands;
@@ -25,7 +25,27 @@ impl Model for Row {
     ghost view = { λ r. record { states = r.states.items; streams = r.streams.items } };
 }
 
+/// The same bands in each place.
+fn copied(alloc: Global, rows: &[Bands]) -> Result<Vec<Bands>, AllocError>
+    ensures { IfOk result (λ made. made.items ≡ rows.now) }
+{
+    let mut made = Vec::with_capacity(alloc, rows.len())?;
+    for bands in rows {
+        made.push(Bands::from_slice(alloc, bands.as_slice())?)?;
+    }
+    Ok(made)
+}
+
 impl Row {
+    /// The same row.
+    pub fn copied(&self, alloc: Global) -> Result<Self, AllocError>
+        ensures { IfOk result (λ row. row ≡ self.now) }
+    {
+        let states = copied(alloc, self.states.as_slice())?;
+        let streams = copied(alloc, self.streams.as_slice())?;
+        Ok(Row { states, streams })
+    }
+
     /// Sets the band of a channel of a stream. A plant's row stays one where the band is inside the channel's limit.
     pub fn set(&mut self, stream: u32, channel: u32, band: Band)
         requires stream { stream < length self.old.streams }
@@ -35,6 +55,18 @@ impl Row {
             IsRow parts self.new }
     {
         self.streams[stream as usize].set(channel as usize, band);
+    }
+
+    /// Puts other bands in the place of those of a stream's channels. A plant's row stays one where they are inside the
+    /// stream's limits.
+    pub fn give(&mut self, stream: u32, bands: &[Band])
+        requires stream { stream < length self.old.streams }
+        requires channels { length bands.now ≡ length (stream_in self.old stream) }
+        ensures given { self.new ≡ give_bands self.old stream bands.now }
+        ensures row { (parts : FileParts) → IsRow parts self.old → AllInside bands.now (limits_at parts stream) →
+            IsRow parts self.new }
+    {
+        self.streams[stream as usize].write(bands);
     }
 
     /// The band of a channel of a stream.
