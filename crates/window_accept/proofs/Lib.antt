@@ -1,0 +1,7 @@
+pub mod Streams
+pub mod Places
+pub mod Following
+pub mod Adoptable
+pub mod Judging
+pub mod Making
+pub mod Found

@@ -1,0 +1,28 @@
+-- What is given can be planned; where it is not given the session ends.
+use Rattle.std.proofs.Common.{refl, inr, true, Ok}
+use Rattle.std.proofs.lemmas.Result.{err_from_is_err_and}
+use Rattle.window_accept.specs.Session.{starved}
+use Rattle.window_accept.proofs.Making.{fault-ends, asked-by, can-be-planned}
+use Rattle.window_accept.proofs.session.Session.planned.Goals as goal
+
+pub returns-in_err-tubes-clause-plans : goal.returns-in_err-tubes-clause-plans
+returns-in_err-tubes-clause-plans g c =
+    let p = err_from_is_err_and c.from_residual.result c.from_residual.ensures.1 in
+    rw (p.1, p.2) (fault-ends true c.args.self.now c.args.feeds.now c.next_window.new.self c.in_err-tubes.field-0.0 c.requires.going
+    (asked-by _ c.args.self.now c.next_ticks-ticks.result c.args.feeds.now c.next_window.new.self _ c.self.view_is
+    c.next_ticks-ticks.ensures c.in_err-tubes.ensures.gives))
+
+pub returns-in_err-carried-clause-plans : goal.returns-in_err-carried-clause-plans
+returns-in_err-carried-clause-plans g c =
+    let p = err_from_is_err_and c.from_residual-in_err-carried.result c.from_residual-in_err-carried.ensures.1 in
+    rw (p.1, p.2) (starved c.requires.going.unended (inr (
+      Ok c.in_ok-tubes.tubes,
+      asked-by _ c.args.self.now
+          c.next_ticks-ticks.result c.args.feeds.now c.next_window.new.self _ c.self.view_is c.next_ticks-ticks.ensures
+          c.in_ok-tubes.ensures.gives,
+    )) refl)
+
+pub new-requires : goal.new-requires
+new-requires g c = can-be-planned _ c.args.self.now c.next_ticks-ticks.result c.in_ok-carried.carried c.in_ok-tubes.tubes
+    c.args.feeds.now c.next_window.new.self c.self.view_is c.self.invariant c.requires.going c.next_ticks-ticks.ensures
+    c.in_ok-carried.ensures c.in_ok-tubes.ensures.gives c.given_feeds_can_be_planned.ensures

@@ -1,0 +1,1 @@
+use Rattle.window_accept.proofs.settling.taken_from.Goals as goal

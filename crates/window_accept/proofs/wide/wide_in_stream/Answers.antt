@@ -1,0 +1,81 @@
+-- A stream's row is searched, unless it is fed.
+use Rattle.std.proofs.Common.{◌≡◌, ◌∙◌, ◌+◌, ℕ, length, sym, ap, subst, arith, rules, Option, Some, None, SFits, w64}
+use Rattle.std.proofs.lemmas.Int.{ints}
+use Rattle.plant_streams.specs.declared.streams.Stream.{Stream}
+use Rattle.plant_streams.specs.declared.streams.StreamSource.TheVariants as source
+use Rattle.relax_core.specs.Settled.{WindowOf, bands_in}
+use Rattle.relax_core.proofs.Turning.{origin-read}
+use Rattle.parts.specs.Parts.{FileParts}
+use Rattle.parts.specs.declared.parts.Widths.{Widths}
+use Rattle.window_accept.specs.Wide.{asked_of, is_signal}
+use Rattle.window_accept.specs.Searching.{FindsChannel, FindsInStream}
+use Rattle.relax_core.specs.Stepping.{IsOutputOf}
+use Rattle.window_accept.specs.declared.wide.TooWide.{TooWide}
+use Rattle.window_accept.proofs.Streams.{signal-is, limits-counted, row-wide, row-in, row-counted, row-inside}
+use Rattle.window_accept.proofs.Places.{unfed, none-in-stream, found-in-stream, same-place}
+use Rattle.window_accept.proofs.wide.wide_in_stream.Goals as goal
+
+pub returns-in-Feed : goal.returns-in-Feed
+returns-in-Feed c =
+    let x = c.index-streams-stream.result in
+    unfed _ _ _ _ c.in-Feed.feed (origin-read c.args.plant.now c.streams.result.now c.args.stream x (source.Feed c.in-Feed.feed)
+    c.requires.stream c.streams.ensures (sym (ap (λ (y : Stream). y.source) c.index-streams-stream.is) ∙ c.in-Feed.is))
+
+pub wide_channel-requires-clause-counted : goal.wide_channel-requires-clause-counted
+wide_channel-requires-clause-counted c =
+    let x = c.index-streams-stream.result in
+    row-counted c.args.plant.now c.args.window.now _ c.args.tick c.args.stream c.index.result.now c.row-row.result.now
+    c.requires.window c.requires.stream c.requires.tick (ap (λ (w : WindowOf). w.tubes) c.window.view_is) c.index.ensures
+    c.row-row.ensures
+    ∙ (limits-counted c.args.plant.now c.behind-plant-2.inside.width c.streams.result.now c.args.stream x c.requires.stream
+    c.streams.ensures ∙ ap (λ (y : Stream). length (asked_of c.behind-plant-2.inside.width y.signal)) (sym c.index-streams-stream.is))
+
+pub wide_channel-requires-clause-wide : goal.wide_channel-requires-clause-wide
+wide_channel-requires-clause-wide c =
+    row-wide c.args.plant.now c.args.stream c.index-streams-stream.result c.row-row.result.now c.requires.window.plant c.requires.stream
+    (row-inside c.args.plant.now c.args.window.now _ c.args.tick c.args.stream c.index.result.now c.row-row.result.now
+    c.requires.window c.requires.stream c.requires.tick (ap (λ (w : WindowOf). w.tubes) c.window.view_is) c.index.ensures
+    c.row-row.ensures)
+
+pub returns-in_err-found : goal.returns-in_err-found
+returns-in_err-found c =
+    let x = c.index-streams-stream.result in
+    let parts = c.args.plant.now in
+    let widths : c.behind-plant-2.inside.width ≡ parts.width = ap (λ (p : FileParts). p.width)
+    (c.behind-plant-2.view_is ∙ c.parts-2.ensures.parts) in
+    let signal : x.signal ≡ is_signal parts c.args.stream = ap (λ (y : Stream). y.signal) c.index-streams-stream.is
+    ∙ signal-is parts c.streams.result.now c.args.stream x c.requires.stream c.streams.ensures in
+    let none : FindsChannel None (asked_of parts.width x.signal) c.row-row.result.now =
+    subst (λ (w : Widths). FindsChannel None (asked_of w x.signal) c.row-row.result.now) widths c.in_err-found.ensures in
+    let bands = bands_in c.args.window.now in
+    let t : ℕ = c.args.window.now.first + c.args.tick in
+    subst (λ (r : Option TooWide). FindsInStream r parts bands t c.args.stream) (sym c.from_residual.ensures)
+    (none-in-stream parts bands t c.args.stream x.signal c.row-row.result.now signal
+    (row-in parts c.args.window.now _ c.args.tick c.args.stream c.index.result.now c.row-row.result.now c.requires.window
+    c.requires.stream c.requires.tick (ap (λ (w : WindowOf). w.tubes) c.window.view_is) c.index.ensures c.row-row.ensures) none)
+
+pub returns : goal.returns
+returns c =
+    let x = c.index-streams-stream.result in
+    let parts = c.args.plant.now in
+    let widths : c.behind-plant-2.inside.width ≡ parts.width = ap (λ (p : FileParts). p.width)
+    (c.behind-plant-2.view_is ∙ c.parts-2.ensures.parts) in
+    let signal : x.signal ≡ is_signal parts c.args.stream = ap (λ (y : Stream). y.signal) c.index-streams-stream.is
+    ∙ signal-is parts c.streams.result.now c.args.stream x c.requires.stream c.streams.ensures in
+    let found = c.in_ok-found.found in
+    let first : FindsChannel (Some found) (asked_of parts.width x.signal) c.row-row.result.now =
+    subst (λ (w : Widths). FindsChannel (Some found) (asked_of w x.signal) c.row-row.result.now) widths
+    c.in_ok-found.ensures in
+    let bands = bands_in c.args.window.now in
+    let t : ℕ = c.args.window.now.first + c.args.tick in
+    let given = subst IsOutputOf (sym (origin-read parts c.streams.result.now c.args.stream x
+    (source.Port c.in_default.field-0 c.in_default.field-1) c.requires.stream c.streams.ensures
+    (sym (ap (λ (y : Stream). y.source) c.index-streams-stream.is) ∙ c.in_default.is))) tt in
+    let wide_fits : SFits w64 found.width = search rules in
+    let limit_fits : SFits w64 found.limit = search rules in
+    same-place parts bands t t c.args.stream _ found.channel found.width found.limit _ _
+    (omega (arith, ap (λ (w : WindowOf). w.first) c.window.view_is)) (omega (arith, ints)) (omega (arith, ints))
+    (found-in-stream parts bands t c.args.stream x.signal c.row-row.result.now signal
+    (row-in parts c.args.window.now _ c.args.tick c.args.stream c.index.result.now c.row-row.result.now c.requires.window
+    c.requires.stream c.requires.tick (ap (λ (w : WindowOf). w.tubes) c.window.view_is) c.index.ensures c.row-row.ensures)
+    found c.requires.stream given first)

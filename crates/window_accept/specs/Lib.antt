@@ -1,0 +1,4 @@
+pub mod Wide
+pub mod Searching
+pub mod Session
+pub mod Making

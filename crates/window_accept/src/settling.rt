@@ -1,0 +1,76 @@
+//! A window that is settled on a board, and judged.
+
+ghost use Rattle.std.specs.Prelude.{◌≡◌, IfOk, OnOk};
+ghost use Rattle.flow_edge.specs.Faults.{Rose};
+ghost use Rattle.relaxation.specs.Core.{IsQuiet};
+ghost use Rattle.renewal.specs.Plan.{window_of};
+ghost use Rattle.window_accept.specs.Making.{IsSettledFor};
+ghost use Rattle.window_accept.specs.Session.{HasRunOf, bands_of_plan};
+ghost use Rattle.window_accept.specs.Wide.{FindsWide};
+
+use crate::adopting::adopt_front;
+use crate::wide::{TooWide, first_wide};
+use relax_core::{Board, Chaos, Window, quiet_boards_are_settled, quiet_boards_carry_the_run};
+use renewal::{Carried, WindowPlan, windows_keep_limits};
+use std::alloc::{AllocError, Global};
+use std::thread::Threads;
+
+/// A settled window, and the bands that are carried out of it.
+#[derive(Drop)]
+pub(crate) struct Settled {
+    pub(crate) window: Window,
+    pub(crate) carried: Carried,
+}
+
+/// A board of a plan on which the versions that `chaos` makes are adopted, as far as they can be, and which is settled then.
+fn quiet_board<'p, R: Threads + Sync, C: Chaos>(
+    rt: &R,
+    alloc: Global,
+    chaos: &mut C,
+    plan: &'p WindowPlan<'p>,
+) -> Result<Board<'p>, AllocError>
+    ensures plan { IfOk result (λ board. board.plan ≡ plan.now) }
+    ensures quiet { IfOk result (λ board. IsQuiet (window_of board.plan) board.versions) }
+    ensures asked { OnOk result (Rose (C.asked chaos.old) (C.asked chaos.new)) }
+{
+    let made = chaos.chaos(rt, alloc, plan)?;
+    let mut board = Board::open(alloc, plan)?;
+    adopt_front(alloc, &mut board, made.as_slice())?;
+    board.settle(alloc)?;
+    Ok(board)
+}
+
+/// What a quiet board leaves, and what is carried out of it.
+fn taken_from(alloc: Global, mut board: Board<'_>) -> Result<Settled, AllocError>
+    requires { IsQuiet (window_of board.plan) board.versions }
+    ensures { IfOk result (IsSettledFor board.entry.plan) }
+{
+    quiet_boards_are_settled();
+    quiet_boards_carry_the_run();
+    let carried = board.carry(alloc)?;
+    let window = board.into_window(alloc)?;
+    Ok(Settled { window, carried })
+}
+
+/// The window of a plan, settled from the versions that `chaos` makes.
+pub(crate) fn settled_window<R: Threads + Sync, C: Chaos>(
+    rt: &R,
+    alloc: Global,
+    chaos: &mut C,
+    plan: &WindowPlan<'_>,
+) -> Result<Settled, AllocError>
+    ensures settled { IfOk result (IsSettledFor plan.now) }
+    ensures asked { OnOk result (Rose (C.asked chaos.old) (C.asked chaos.new)) }
+{
+    let board = quiet_board(rt, alloc, chaos, plan)?;
+    taken_from(alloc, board)
+}
+
+/// The first place at which a band of a plan's run is wider than was asked.
+pub(crate) fn first_wide_of(plan: &WindowPlan<'_>, window: &Window) -> Option<TooWide>
+    requires { HasRunOf plan.now window.now }
+    ensures { FindsWide result plan.now.parts (bands_of_plan plan.now) plan.now.first plan.now.ticks }
+{
+    windows_keep_limits();
+    first_wide(plan.plant(), window)
+}
