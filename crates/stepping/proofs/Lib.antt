@@ -1,0 +1,3 @@
+mod Runs
+mod Stepped
+mod Answered

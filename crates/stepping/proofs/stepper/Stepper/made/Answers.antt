@@ -1,0 +1,62 @@
+-- The session's next window, or its end.
+use Rattle.std.proofs.Common.{◌≡◌, ◌∙◌, List, Result, Ok, sym, subst, ap, refl}
+use Rattle.relaxation.specs.Tube.{Tube}
+use Rattle.parts.specs.Parts.{FileParts}
+use Rattle.plant.specs.Rows.{RowBands}
+use Rattle.relax_core.specs.Settled.{WindowOf}
+use Rattle.window_accept.specs.Session.{SessionOf, IsSession, Asks, finished}
+use Rattle.stepping.specs.declared.stepper.Stepped.{Stepped}
+use Rattle.stepping.proofs.Answered.{tubes-given, asked, going-on, unfed-end, all-given, all-ended, all-stand}
+use Rattle.stepping.proofs.stepper.Stepper.made.Goals as goal
+
+pub returns-then-self-parts-clause-err : goal.returns-then-self-parts-clause-err
+returns-then-self-parts-clause-err g c =
+    let last = ap (λ (p : FileParts). p.ticks) (c.behind-self.view_is ∙ c.parts.ensures.parts) in
+    finished c.requires.end (subst (λ (s : SessionOf). s.tick ≡ s.parts.ticks) c.self.view_is
+    (c.if-self-parts.true ∙ last)) refl refl
+
+pub judged-requires-clause-feeds : goal.judged-requires-clause-feeds
+judged-requires-clause-feeds g c = c.as_slice.ensures ∙ tubes-given c.in-Ok.tubes (asked _ c.args.self.now
+    c.next_ticks.result c.args.feeds.now c.next_window.new.self (Ok c.in-Ok.tubes) c.self.view_is c.next_ticks.ensures
+    c.in-Ok.ensures.gives)
+
+pub returns-in-Ok-clause-ok : goal.returns-in-Ok-clause-ok
+returns-in-Ok-clause-ok g c =
+    let now = c.args.self.now in
+    let last = ap (λ (p : FileParts). p.ticks) (c.behind-self.view_is ∙ c.parts.ensures.parts) in
+    let going = going-on _ now _ c.self.view_is last c.self.invariant.session_is c.requires.end
+    c.if-self-parts.false in
+    let asks = subst (λ (tubes : List Tube). Asks now c.args.feeds.now c.next_window.new.self (Ok tubes))
+    (sym c.as_slice.ensures) (asked _ now c.next_ticks.result c.args.feeds.now c.next_window.new.self
+    (Ok c.in-Ok.tubes) c.self.view_is c.next_ticks.ensures c.in-Ok.ensures.gives) in
+    all-given now c.args.feeds.now c.next_window.new.self going (λ (made : Stepped). made.window) (λ made. made.row)
+    c.as_slice.result.now c.judged.result asks c.judged.ensures.ok
+
+pub returns-in-Ok-clause-stepper : goal.returns-in-Ok-clause-stepper
+returns-in-Ok-clause-stepper g c =
+    let now = c.args.self.now in
+    all-stand (λ (made : Stepped). made.window) (λ made. made.row) now c.as_slice.result.now c.judged.result
+    (subst IsSession c.self.view_is c.self.invariant.session_is) c.windows_carry_the_run.ensures.within
+    c.judged.ensures.ok
+
+pub returns-in-Ok-clause-err : goal.returns-in-Ok-clause-err
+returns-in-Ok-clause-err g c =
+    let now = c.args.self.now in
+    let last = ap (λ (p : FileParts). p.ticks) (c.behind-self.view_is ∙ c.parts.ensures.parts) in
+    let going = going-on _ now _ c.self.view_is last c.self.invariant.session_is c.requires.end
+    c.if-self-parts.false in
+    let asks = subst (λ (tubes : List Tube). Asks now c.args.feeds.now c.next_window.new.self (Ok tubes))
+    (sym c.as_slice.ensures) (asked _ now c.next_ticks.result c.args.feeds.now c.next_window.new.self
+    (Ok c.in-Ok.tubes) c.self.view_is c.next_ticks.ensures c.in-Ok.ensures.gives) in
+    all-ended now c.args.feeds.now c.next_window.new.self going c.as_slice.result.now c.judged.result asks
+    c.judged.ensures.err
+
+pub returns-in-Err-clause-err : goal.returns-in-Err-clause-err
+returns-in-Err-clause-err g c =
+    let now = c.args.self.now in
+    let last = ap (λ (p : FileParts). p.ticks) (c.behind-self.view_is ∙ c.parts.ensures.parts) in
+    let going = going-on _ now _ c.self.view_is last c.self.invariant.session_is c.requires.end
+    c.if-self-parts.false in
+    unfed-end now c.args.feeds.now c.next_window.new.self going c.in-Err.fault c.end_by.result c.end_by.ensures
+    (asked _ now c.next_ticks.result c.args.feeds.now c.next_window.new.self _ c.self.view_is c.next_ticks.ensures
+    c.in-Err.ensures.gives)
