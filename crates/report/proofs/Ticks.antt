@@ -6,7 +6,8 @@ use Rattle.relaxation.specs.Tube.{at}
 use Rattle.relax_core.specs.Settled.{WindowOf}
 use Rattle.parts.specs.Parts.{FileParts}
 use Rattle.tables.specs.Output.{Label, rows_of, rows_from, tick_rows}
-use Rattle.report.specs.Output.{labels_of, bands_in}
+use Rattle.report.specs.Output.{labels_of}
+use Rattle.relax_core.specs.Settled.{bands_in}
 
 -- the rows of one tick more
 rows-ticks : (labels : List Label) (bands : ℕ → ℕ → List Interval) (first n : ℕ) →

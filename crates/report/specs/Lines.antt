@@ -6,7 +6,7 @@ use Rattle.report.specs.declared.fault.TopFault.TheVariants.{Words, TooLong, Not
 use Rattle.report.specs.declared.fault.TopFault.TheVariants.{OutOfRange, BadName, Twice, NoSource, WrongPort, TooMany}
 use Rattle.report.specs.declared.fault.TopFault.TheVariants.{BadLimits, StartOutside, FeedPieces, FeedOutside, TableFalls}
 use Rattle.report.specs.declared.fault.TopFault.TheVariants.{ColumnTooFast, InstantLoop, TooDeep, BadRecord, UnknownPlace, Order, Outside, FeedTooLong, Wide}
-use Rattle.report.specs.declared.fault.TopFault.TheVariants.{NotBuilt, ReadPlant, ReadExtra, WriteOut, WriteTrace}
+use Rattle.report.specs.declared.fault.TopFault.TheVariants.{ReadPlant, ReadExtra, WriteOut, WriteTrace}
 
 -- what a line says
 unfoldable pub fault_words : TopFault → List ℕ
@@ -39,7 +39,6 @@ fault_words (FeedTooLong at) = codes "F5 too long at record " ++ decimal at
 fault_words (Wide stream channel tick width limit) =
     (codes "wide stream " ++ stream) ++ (codes " channel " ++ channel) ++ (codes " tick " ++ decimal tick)
     ++ (codes " width " ++ signed_decimal width) ++ (codes " limit " ++ signed_decimal limit)
-fault_words (NotBuilt place) = codes "P0 not built yet " ++ place
 fault_words ReadPlant = codes "read fault on plant"
 fault_words ReadExtra = codes "read fault on extra"
 fault_words WriteOut = codes "write fault on out"

@@ -111,10 +111,6 @@ pub enum TopFault {
         width: i64,
         limit: i64,
     },
-    /// The file asks here for what is not built yet.
-    NotBuilt {
-        place: Place,
-    },
     /// The plant source could not be read.
     ReadPlant,
     /// The source of feed records could not be read.

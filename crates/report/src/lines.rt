@@ -68,7 +68,6 @@ fn line_bytes(alloc: Global, fault: &TopFault) -> Result<Vec<u8>, AllocError>
         TopFault::ColumnTooFast { unit } => name_line(alloc, b"P18 column too fast ", unit),
         TopFault::InstantLoop { unit } => name_line(alloc, b"P19 instant loop ", unit),
         TopFault::TooDeep { unit } => name_line(alloc, b"P20 too deep ", unit),
-        TopFault::NotBuilt { place } => place_line(alloc, b"P0 not built yet ", place),
         TopFault::BadRecord { at } => record_line(alloc, b"F1 bad record ", *at),
         TopFault::UnknownPlace { at } => record_line(alloc, b"F2 unknown place at record ", *at),
         TopFault::Order { at } => record_line(alloc, b"F3 order at record ", *at),

@@ -12,32 +12,54 @@ use plant::Plant;
 use plant_names::Text;
 use relax_core::Window;
 use std::alloc::{AllocError, Global};
-use tables::Rows;
+use tables::{BandRows, Rows, StreamRows};
 
 /// The output's rows of a window of the plant.
 pub fn tube_rows(alloc: Global, plant: &Plant, window: &Window) -> Result<Text, AllocError>
     requires { IsWindow plant.now window.now }
     ensures { IfOk result (λ text. text ≡ output_rows plant.now window.now) }
 {
-    let mut rows = Rows::new(alloc);
+    let mut kept = stream_rows(alloc, plant)?;
+    let streams = kept.as_mut_slice();
+    let mut rows = BandRows::new(alloc);
     for tick in 0..window.ticks {
-        put_tick(&mut rows, tick, plant, window)?;
+        put_tick(&mut rows, streams, tick, plant, window)?;
     }
-    Ok(Text::new(rows.into_text()?))
+    Ok(Text::new(rows.into_text()))
+}
+
+/// The streams of a plant, as they are printed.
+fn stream_rows(alloc: Global, plant: &Plant) -> Result<Vec<StreamRows<'_>>, AllocError>
+    ensures { IfOk result (λ rows. rows.items ≡ labels_of plant.now) }
+{
+    let streams = plant.streams();
+    let mut rows = Vec::with_capacity(alloc, streams.len())?;
+    for stream in streams {
+        rows.push(StreamRows::new(alloc, stream.name.as_bytes(), stream.signal)?)?;
+    }
+    Ok(rows)
 }
 
 /// Adds the rows of a window's tick, counted from its first, stream by stream.
-fn put_tick(rows: &mut Rows, tick: u32, plant: &Plant, window: &Window) -> Result<(), AllocError>
+fn put_tick(
+    rows: &mut BandRows,
+    streams: &mut [StreamRows],
+    tick: u32,
+    plant: &Plant,
+    window: &Window,
+) -> Result<(), AllocError>
     requires window { IsWindow plant.now window.now }
     requires tick { tick < window.now.ticks }
-    ensures { OnOk result (rows.new ≡ rows.old
+    requires streams { streams.old ≡ labels_of plant.now }
+    ensures streams { streams.new ≡ streams.old }
+    ensures rows { OnOk result (rows.new ≡ rows.old
         ++ rows_from (window.now.first + tick) (λ s. at (slice_index_or window.now.tubes s []) tick) 0 (labels_of plant.now)) }
 {
     prove!(tick < plant.parts().ticks - window.first);
     let shown = window.first + tick;
-    for (s, stream) in plant.streams().iter().enumerate() {
+    for s in 0..streams.len() {
         let bands = window.tubes[s].row(tick);
-        rows.put_stream(shown, stream.name.as_bytes(), stream.signal, bands)?;
+        rows.put_stream(shown, &mut streams[s], bands)?;
     }
     Ok(())
 }

@@ -1,6 +1,6 @@
 use quant::Band;
 use std::test::Fail;
-use tables::{Rows, output_header, rank_header, trace_header};
+use tables::{BandRows, Rows, StreamRows, output_header, rank_header, trace_header};
 
 // A material stream at the first tick, and a signal at the last that there can be.
 const FEED_AND_VALVE: &str = "0,feed,flow,0,1500\n\
@@ -10,20 +10,47 @@ const FEED_AND_VALVE: &str = "0,feed,flow,0,1500\n\
 
 #[test]
 fn streams(rt: HostRuntime) -> Result<(), Fail> {
-    let mut rows = Rows::new(rt.alloc());
-    let feed = [
+    let mut rows = BandRows::new(rt.alloc());
+    let mut feed = StreamRows::new(rt.alloc(), b"feed", false)?;
+    let mut valve = StreamRows::new(rt.alloc(), b"valve", true)?;
+    let bands = [
         Band { lo: 0, hi: 1500 },
         Band { lo: -20, hi: -3 },
         Band { lo: 300, hi: 300 },
     ];
-    let valve = [Band {
+    let full = [Band {
         lo: -1000000000000,
         hi: 1000000000000,
     }];
-    rows.put_stream(0, b"feed", false, &feed)?;
-    rows.put_stream(4294967295, b"valve", true, &valve)?;
-    let text = rows.into_text()?;
+    rows.put_stream(0, &mut feed, &bands)?;
+    rows.put_stream(4294967295, &mut valve, &full)?;
+    let text = rows.into_text();
     assert!(rt; text.as_slice() == FEED_AND_VALVE.as_bytes());
+    Ok(())
+}
+
+// Bands that stay, of which one end alone becomes another, and that are the number 0 at first.
+const KEPT: &str = "8,a.level,value,0,0\n\
+    8,b.level,value,7,9\n\
+    9,a.level,value,0,0\n\
+    9,b.level,value,8,9\n\
+    10,a.level,value,0,10\n\
+    10,b.level,value,8,9\n\
+    11,a.level,value,0,1\n\
+    11,b.level,value,8,9\n";
+
+#[test]
+fn rows_that_are_kept(rt: HostRuntime) -> Result<(), Fail> {
+    let mut rows = BandRows::new(rt.alloc());
+    let mut first = StreamRows::new(rt.alloc(), b"a.level", true)?;
+    let mut second = StreamRows::new(rt.alloc(), b"b.level", true)?;
+    let ends = [(0, 7), (0, 8), (10, 8), (1, 8)];
+    for (i, (hi, lo)) in ends.iter().enumerate() {
+        let tick = i as u32 + 8;
+        rows.put_stream(tick, &mut first, &[Band { lo: 0, hi: *hi }])?;
+        rows.put_stream(tick, &mut second, &[Band { lo: *lo, hi: 9 }])?;
+    }
+    assert!(rt; rows.into_text().as_slice() == KEPT.as_bytes());
     Ok(())
 }
 

@@ -1,3 +1,3 @@
-mod ChannelRows
+mod KeptRows
 mod RowText
 mod Spacing

@@ -1,3 +1,4 @@
+pub mod Kept
 pub mod Line
 pub mod Output
 pub mod Steps

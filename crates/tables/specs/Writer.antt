@@ -1,6 +1,6 @@
 -- Words of the proofs: a reader of the contracts needs none of them.
 -- How the rows' writer is set up, and what stands in it between two rows.
-use Rattle.std.specs.Prelude.{◌≡◌, ℕ, true, false, None, List, ◌++◌}
+use Rattle.std.specs.Prelude.{◌≡◌, ℕ, true, false, None, List, [], ◌++◌}
 use Rattle.std.specs.declared.vec.Vec.{Vec}
 use Rattle.std.specs.declared.alloc.Global.{Global}
 use Rattle.csv.specs.Writing.{quote_mark, backslash, writer_setup, writer_under, writer_pending, fields_written}
@@ -34,3 +34,8 @@ pub record IsBetweenRows (w : Writer (Vec ℕ Global)) : Type 0 where
   pub settings : writer_setup w ≡ table_writer
   pub no_field : fields_written w ≡ 0
   pub no_byte : has_written w ≡ false
+
+-- and all that was written is in the vector
+pub record IsFlushed (w : Writer (Vec ℕ Global)) : Type 0 where
+  pub ready : IsBetweenRows w
+  pub empty : writer_pending w ≡ []

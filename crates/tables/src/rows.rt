@@ -1,13 +1,10 @@
 ghost use Rattle.std.specs.Prelude.{◌≡◌, ◌≤◌, ◌∷◌, ◌++◌, [], length, map, IfOk, OnOk, OnErr};
-ghost use Rattle.tables.specs.Output.{channels, header, rank_header};
+ghost use Rattle.tables.specs.Output.{header, rank_header};
 ghost use Rattle.tables.specs.Steps.{trace_header};
 
-mod row_writer;
-
-use self::row_writer::{row_writer, write_row};
+use crate::row_writer::{begin_anew, row_writer, write_row};
 use crate::spaced::spaced_text;
 use itoa::Buffer;
-use quant::Band;
 use std::alloc::{AllocError, Global};
 use std::marker::Model;
 
@@ -43,22 +40,6 @@ pub fn trace_header() -> &'static [u8]
     TRACE_HEADER.as_bytes()
 }
 
-// The channels of a material stream and of a signal.
-const MATERIAL_CHANNELS: [&[u8]; 3] = [b"flow", b"conc", b"temp"];
-
-const SIGNAL_CHANNELS: [&[u8]; 1] = [b"value"];
-
-// The names of a stream's channels.
-fn channel_names(signal: bool) -> &'static [&'static [u8]]
-    ensures { map (λ name. name.now) result.now ≡ channels signal }
-{
-    if signal {
-        &SIGNAL_CHANNELS
-    } else {
-        &MATERIAL_CHANNELS
-    }
-}
-
 /// Rows of a table, written one after another into memory.
 #[derive(Drop)]
 pub struct Rows {
@@ -79,9 +60,8 @@ impl Model for Rows {
 
 impl Rows {
     ghost use Rattle.tables.specs.Line.{line};
-    ghost use Rattle.tables.specs.Output.{stream_rows, rank_row};
+    ghost use Rattle.tables.specs.Output.{rank_row};
     ghost use Rattle.tables.specs.Steps.{step_row};
-    ghost use Rattle.std.specs.Fmt.{signed_decimal};
 
     /// No rows. It takes no memory.
     pub fn new(alloc: Global) -> Self
@@ -105,7 +85,7 @@ impl Rows {
         match write_row(&mut self.writer, fields) {
             Ok(()) => Ok(()),
             Err(_) => {
-                self.writer = row_writer(self.alloc);
+                begin_anew(&mut self.writer, self.alloc);
                 Err(AllocError)
             }
         }
@@ -124,47 +104,6 @@ impl Rows {
         ensures err { OnErr result (self.new ≡ []) }
     {
         self.put(&[first, second, third, fourth, fifth])
-    }
-
-    // Adds the row of one channel.
-    fn put_channel(
-        &mut self,
-        tick: &[u8],
-        name: &[u8],
-        channel: &[u8],
-        band: Band,
-    ) -> Result<(), AllocError>
-        ensures ok { OnOk result (self.new ≡ self.old ++ line (tick.now ∷ name.now ∷ channel.now ∷ signed_decimal band.lo ∷ signed_decimal band.hi ∷ [])) }
-        ensures err { OnErr result (self.new ≡ []) }
-    {
-        let mut lo = Buffer::new();
-        let mut hi = Buffer::new();
-        let lo = lo.format(band.lo).as_bytes();
-        let hi = hi.format(band.hi).as_bytes();
-        self.put_texts(tick, name, channel, lo, hi)
-    }
-
-    /// Adds the rows of a stream's channels at a tick, one row for each channel that has a band.
-    ///
-    /// `tick` counts from the start of the run, `name` is the stream's, and `signal` chooses between the channels of a
-    /// signal and those of a material stream. The one error is want of memory, after which no rows are left.
-    pub fn put_stream(
-        &mut self,
-        tick: u32,
-        name: &[u8],
-        signal: bool,
-        bands: &[Band],
-    ) -> Result<(), AllocError>
-        ensures ok { OnOk result (self.new ≡ self.old ++ stream_rows tick (record { name = name.now; signal = signal }) bands.now) }
-        ensures err { OnErr result (self.new ≡ []) }
-    {
-        let mut tick_text = Buffer::new();
-        let tick = tick_text.format(tick).as_bytes();
-        let channels = channel_names(signal);
-        for i in 0..channels.len().min(bands.len()) {
-            self.put_channel(tick, name, channels[i], bands[i])?;
-        }
-        Ok(())
     }
 
     /// Adds the row of a unit: its name, the name of its kind, and its rank.

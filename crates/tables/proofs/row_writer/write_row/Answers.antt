@@ -5,7 +5,7 @@ use Rattle.csv.specs.Writing.{writer_setup, row_text}
 use Rattle.csv.specs.declared.writer.QuoteStyle.TheVariants as style
 use Rattle.tables.specs.Writer.{text_so_far}
 use Rattle.tables.proofs.RowText.{row_text-line}
-use Rattle.tables.proofs.rows.row_writer.write_row.Goals as goal
+use Rattle.tables.proofs.row_writer.write_row.Goals as goal
 
 -- the row's text is the line of its fields, since there are at least two
 pub returns-clause-row : goal.returns-clause-row

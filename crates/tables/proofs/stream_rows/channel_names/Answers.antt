@@ -1,6 +1,6 @@
 use Rattle.std.proofs.Common.{rules}
 use Rattle.tables.specs.Output.{channels}
-use Rattle.tables.proofs.rows.channel_names.Goals as goal
+use Rattle.tables.proofs.stream_rows.channel_names.Goals as goal
 
 pub returns-then-signal : goal.returns-then-signal
 unfolding channels

@@ -2,7 +2,7 @@
 
 ghost use Rattle.std.specs.Prelude.{◌≡◌, ◌≤◌, ◌++◌, [], length, map, OnOk};
 ghost use Rattle.tables.specs.Line.{line};
-ghost use Rattle.tables.specs.Writer.{IsBetweenRows, text_so_far};
+ghost use Rattle.tables.specs.Writer.{IsBetweenRows, IsFlushed, text_so_far};
 
 use csv::{Error, QuoteStyle, Writer, WriterBuilder};
 use std::alloc::Global;
@@ -11,11 +11,24 @@ use std::alloc::Global;
 pub fn row_writer(alloc: Global) -> Writer<Vec<u8>>
     ensures empty { text_so_far result ≡ [] }
     ensures ready { IsBetweenRows result }
+    ensures flushed { IsFlushed result }
 {
     WriterBuilder::new()
         .quote_style(QuoteStyle::Never)
         .flexible(true)
         .from_writer(Vec::new(alloc))
+}
+
+// Puts a writer with no rows in the place of another. It stands apart, since a function pays at its entry for the room
+// of a writer, some 8,000 bytes.
+#[cold]
+#[inline(never)]
+pub fn begin_anew(writer: &mut Writer<Vec<u8>>, alloc: Global)
+    ensures empty { text_so_far writer.new ≡ [] }
+    ensures ready { IsBetweenRows writer.new }
+    ensures flushed { IsFlushed writer.new }
+{
+    *writer = row_writer(alloc);
 }
 
 // Writes one row. After an error, which only want of memory makes, nothing is known of the writer.
