@@ -11,7 +11,7 @@ use Rattle.flow_file.specs.declared.fault.TextFault.TheVariants as text
 use Rattle.parts.specs.Parts.{FileParts}
 use Rattle.plant.specs.Sound.{IsPlant}
 use Rattle.flow_top.specs.declared.words.Command.{Command}
-use Rattle.flow_top.specs.declared.words.Command.TheVariants.{Run, Check}
+use Rattle.flow_top.specs.declared.words.Command.TheVariants.{Run, Direct, Check}
 use Rattle.flow_top.specs.declared.fault.Stop.{Stop}
 use Rattle.flow_top.specs.declared.fault.End.{End}
 use Rattle.flow_top.specs.declared.fault.End.TheVariants.{Stopped}
@@ -28,9 +28,10 @@ use Rattle.flow_top.specs.Uses.{SourceUse, SinkUse, Sinks, IsUnwritten, AreUnwri
 use Rattle.flow_top.specs.Ended.{Ended, misread, asked, CommandEnded, WorkEnded, course_end, SaysParts, IsRefused, TraceStood, Stood, BrokeOff}
 use Rattle.flow_top.specs.Ended as ended
 use Rattle.flow_top.specs.Stands.{Said, SaidMemory, SaidStop}
-use Rattle.flow_top.specs.Causes.{IsEndOn, refusal, course, IsAtWork, WroteSome, WroteFront, SaysStop, CauseSaid, Cause, AnswersOr, AnswersUnlessRead}
+use Rattle.flow_top.specs.Causes.{IsEndOn, refusal, course, IsAtWork, WroteSome, WroteFront, SaysRefusal, SaysStop, CauseSaid, Cause, AnswersOr, AnswersUnlessRead, AnswersUnlessFailed}
 use Rattle.flow_top.proofs.Judging.{judgement-unique}
-use Rattle.flow_top.proofs.Courses.{courses-agree, course-stops, work-exists}
+use Rattle.flow_top.specs.WindowsCourse.{wide_fault}
+use Rattle.flow_top.proofs.Courses.{AreOne, AreFound, work-agrees, course-stops, work-exists, wide_status}
 
 -- the refusals of a text are refusals
 text-refused : (fault : TextFault) → own_status (fault_of_text fault) ≡ status.Refused
@@ -92,22 +93,26 @@ refusal_status : (command : Command) (fault : TopFault) → own_status fault ≡
     (status_of command fault ≡ status.Refused) ⊎ (status_of command fault ≡ status.No)
 unfolding status_of
 refusal_status Run fault e = inl e
+refusal_status Direct fault e = inl e
 refusal_status Check fault e = check_status fault e
 
 -- the status of a failed device
 read_status : (command : Command) → status_of command top.ReadPlant ≡ status.ReadFault
 unfolding status_of own_status
 read_status Run = refl
+read_status Direct = refl
 read_status Check = refl
 
 write_status : (command : Command) → status_of command top.WriteOut ≡ status.WriteFault
 unfolding status_of own_status
 write_status Run = refl
+write_status Direct = refl
 write_status Check = refl
 
 trace_status : (command : Command) → status_of command top.WriteTrace ≡ status.WriteFault
 unfolding status_of own_status
 trace_status Run = refl
+trace_status Direct = refl
 trace_status Check = refl
 
 broken_status : (command : Command) (course : Course) (sinks : Sinks) (fault : TopFault) → BrokeOff course sinks fault →
@@ -127,29 +132,29 @@ broken_rose : (course : Course) (sinks : Sinks) (fault : TopFault) → BrokeOff 
 broken_rose c sinks fault (ended.output broke trace) o t = o broke.fault
 broken_rose c sinks fault (ended.trace traced some front trace rose) o t = t rose
 
+broken_count : (course : Course) (sinks : Sinks) (fault : TopFault) → BrokeOff course sinks fault →
+    Rose sinks.out.before sinks.out.now ⊎ Rose sinks.trace.before sinks.trace.now
+broken_count c sinks fault (ended.output broke trace) = inl broke.fault
+broken_count c sinks fault (ended.trace traced some front trace rose) = inr rose
+
 -- a fact of a text that is told holds at that text
 at_text : (o : Option (List ℕ)) (bytes : List ℕ) (P : List ℕ → Type 0) → o ≡ Some bytes → IfSome o P → P bytes
 at_text o bytes P t h = subst (λ o. IfSome o P) t h
 
--- what holds of each text holds of the one that is told
-each_text : (o : Option (List ℕ)) (P Q : List ℕ → Type 0) → ((bytes : List ℕ) → P bytes → Q bytes) → IfSome o P → IfSome o Q
-each_text None P Q f h = tt
-each_text (Some bytes) P Q f h = f bytes h
-
 -- a command has one end on a text
-pub end-unique : (command : Command) (bytes : List ℕ) (one other : Option Stop) → IsEndOn command bytes one →
+pub end-unique : AreOne → (command : Command) (bytes : List ℕ) (one other : Option Stop) → IsEndOn command bytes one →
     IsEndOn command bytes other → one ≡ other
-end-unique command bytes one other (refusal f j e) (refusal g k d) =
+end-unique unique command bytes one other (refusal f j e) (refusal g k d) =
     let same : f ≡ g = cc (judgement-unique bytes (Err f) (Err g) j k) in
     e ∙ ap (λ fault. Some (stop_by command fault)) same ∙ sym d
-end-unique command bytes one other (refusal f j e) (course parts c k w d) =
+end-unique unique command bytes one other (refusal f j e) (course parts c k w d) =
     absurd (cc (judgement-unique bytes (Err f) (Ok parts) j k))
-end-unique command bytes one other (course parts c k w d) (refusal f j e) =
+end-unique unique command bytes one other (course parts c k w d) (refusal f j e) =
     absurd (cc (judgement-unique bytes (Err f) (Ok parts) j k))
-end-unique command bytes one other (course p a j w e) (course q b k v d) =
+end-unique unique command bytes one other (course p a j w e) (course q b k v d) =
     let same : q ≡ p = cc (judgement-unique bytes (Ok q) (Ok p) k j) in
     let moved : IsWork command p b = subst (λ parts. IsWork command parts b) same v in
-    e ∙ courses-agree command p a b w.follows moved.follows ∙ sym d
+    e ∙ (work-agrees unique command p a b w.follows moved.follows).stop ∙ sym d
 
 -- what was said of a stop is answered by its status, or by one that the error line explains
 own_or : (stop : Stop) (err : SinkUse) (result : Status) → SaidStop stop err result → AnswersOr stop.status err result
@@ -227,33 +232,34 @@ module _ (words : List (List ℕ)) (plant : SourceUse) (sinks : Sinks) (err : Si
       (record { at = at_work command parts c a says work; whole = e; output = stood.output; trace = stood.trace }, said.0)
   by_course (Some stop) command parts c a says work stood e said =
       let stops = course-stops command parts c stop work.follows e in
-      let silent : AreUnwritten sinks = record {
-        out = stood.silent stops.text;
-        trace = subst (λ t. TraceStood t c.windows sinks.trace) stops.untraced stood.trace;
-      } in
-      let status_is : stop.status ≡ status.Refused = sym (ap (λ (s : Stop). s.status) stops.stop_is) ∙ stops.refused in
+      let fault = wide_fault parts stops.place in
+      let status_is : stop.status ≡ status.Wide = ap (λ (s : Stop). s.status) stops.stop_is ∙ wide_status command parts stops.place in
       by_stop stop said (λ to g. subst (λ s. CauseSaid s words plant sinks to) (sym status_is) (record {
-        command = command;
-        fault = stops.fault;
-        asked = a;
-        ends = each_text plant.text (λ bytes. IsJudged bytes (Ok parts))
-            (λ bytes. IsEndOn command bytes (Some (stop_by command stops.fault)))
-            (λ bytes j. course parts c j work (ap Some stops.stop_is ∙ sym e)) says.text;
-        status = stops.refused;
-        line = subst (λ (s : Stop). WasGiven to (fault_line s.fault)) (sym stops.stop_is) g;
-        silent = silent;
-      })) (λ none. inl silent)
+        at = at_work command parts c a says work;
+        fault = fault;
+        stop = e ∙ ap Some stops.stop_is;
+        status = wide_status command parts stops.place;
+        output = stood.output;
+        trace = stood.trace;
+        line = subst (λ (s : Stop). WasGiven to (fault_line s.fault)) stops.stop_is g;
+      })) (λ none. inr (record {
+        at = at_work command parts c a says work;
+        windows = c.windows;
+        few = stood.few;
+        fewer = λ whole. absurd (cc (e, whole));
+        output = stood.output;
+        trace = stood.trace;
+      }))
 
   -- what is said where the plant is refused
   says_refusal : (own : Status) (command : Command) (fault : TopFault) (to : SinkUse) → command_in words ≡ Ok command →
       IsRefused plant fault → AreUnwritten sinks → status_of command fault ≡ own → WasGiven to (fault_line fault) →
-      SaysStop own words plant sinks to
+      SaysRefusal own words plant sinks to
   says_refusal own command fault to a r o s g = record {
     command = command;
     fault = fault;
     asked = a;
-    ends = each_text plant.text (λ bytes. IsJudged bytes (Err fault))
-        (λ bytes. IsEndOn command bytes (Some (stop_by command fault))) (λ bytes j. refusal fault j refl) r.text;
+    refused = r.text;
     status = s;
     line = g;
     silent = o;
@@ -322,7 +328,7 @@ module _ (words : List (List ℕ)) (plant : SourceUse) (sinks : Sinks) (err : Si
       own_or (record { fault = top.Words k; status = status.Words }) err result (subst (λ x. Said x err result) e said)
   words-only at ending (asked command a e) said d = absurd (cc (a, d))
 
-  module _ (command : Command) (bytes : List ℕ) (told : plant.text ≡ Some bytes) where
+  module _ (unique : AreOne) (command : Command) (bytes : List ℕ) (told : plant.text ≡ Some bytes) where
     -- the end on the text of a course, and of a refusal
     course_end_on : (parts : FileParts) (c : Course) → SaysParts plant parts → IsWork command parts c →
         IsEndOn command bytes c.stop
@@ -333,33 +339,54 @@ module _ (words : List (List ℕ)) (plant : SourceUse) (sinks : Sinks) (err : Si
     refusal_on fault r =
         refusal fault (at_text plant.text bytes (λ text. IsJudged text (Err fault)) told r.text) refl
 
-    -- a stop has its status, but where the source failed
+    -- a refused text is answered by its status, but where the source failed
+    at_refusal : (fault : TopFault) (ending : Result (Unit {0}) End) → CommandEnded command plant sinks ending →
+        Said ending err result → IsJudged bytes (Err fault) → AnswersUnlessRead (status_of command fault) plant err result
+    at_refusal fault ending (ended.refused f r o e) said judged =
+        let here = at_text plant.text bytes (λ text. IsJudged text (Err f)) told r.text in
+        let same : f ≡ fault = cc (judgement-unique bytes (Err f) (Err fault) here judged) in
+        inl (own_or (stop_by command fault) err result
+        (subst (λ x. Said x err result) (e ∙ ap (λ f. Err (Stopped (stop_by command f))) same) said))
+    at_refusal fault ending (ended.failed rose o e) said judged =
+        let said_read = own_or (stop_by command top.ReadPlant) err result (subst (λ x. Said x err result) e said) in
+        read_or (status_of command fault) plant err result rose (subst (λ s. AnswersOr s err result) (read_status command) said_read)
+    at_refusal fault ending (ended.starved o e) said judged =
+        inl (memory_or (status_of command fault) err result (subst (λ x. Said x err result) e said))
+    at_refusal fault ending (ended.worked parts says w) said judged =
+        let here = at_text plant.text bytes (λ text. IsJudged text (Ok parts)) told says.text in
+        absurd (cc (judgement-unique bytes (Ok parts) (Err fault) here judged))
+
+    -- a stop has its status, but where a device failed
+    broke_or : (own : Status) (c : Course) (fault : TopFault) → BrokeOff c sinks fault → AnswersOr (status_of command fault) err result →
+        AnswersUnlessFailed own plant sinks err result
+    broke_or own c fault broke (inl e) = inr (e ∙ broken_status command c sinks fault broke, broken_count c sinks fault broke)
+    broke_or own c fault broke (inr s) = inl (inl (inr s))
+
     at_stop_of_work : (stop : Stop) (parts : FileParts) (ending : Result (Unit {0}) End) → SaysParts plant parts →
         WorkEnded command parts sinks ending → Said ending err result → IsEndOn command bytes (Some stop) →
-        AnswersOr stop.status err result
+        AnswersUnlessFailed stop.status plant sinks err result
     at_stop_of_work stop parts ending says (ended.through c work stood e) said ends =
-        let same = end-unique command bytes c.stop (Some stop) (course_end_on parts c says work) ends in
-        own_or stop err result (subst (λ x. Said x err result) (e ∙ ap course_end same) said)
+        let same = end-unique unique command bytes c.stop (Some stop) (course_end_on parts c says work) ends in
+        inl (inl (own_or stop err result (subst (λ x. Said x err result) (e ∙ ap course_end same) said)))
     at_stop_of_work stop parts ending says (ended.broken c fault work some broke e) said ends =
-        let same = end-unique command bytes c.stop (Some stop) (course_end_on parts c says work) ends in
-        absurd (some (course-stops command parts c stop work.follows same).text)
+        broke_or stop.status c fault broke (own_or (stop_by command fault) err result (subst (λ x. Said x err result) e said))
     at_stop_of_work stop parts ending says (ended.early o e) said ends =
-        memory_or stop.status err result (subst (λ x. Said x err result) e said)
+        inl (inl (memory_or stop.status err result (subst (λ x. Said x err result) e said)))
     at_stop_of_work stop parts ending says (ended.within c k work stood less e) said ends =
-        memory_or stop.status err result (subst (λ x. Said x err result) e said)
+        inl (inl (memory_or stop.status err result (subst (λ x. Said x err result) e said)))
 
     at_stop : (stop : Stop) (ending : Result (Unit {0}) End) → CommandEnded command plant sinks ending →
-        Said ending err result → IsEndOn command bytes (Some stop) → AnswersUnlessRead stop.status plant err result
+        Said ending err result → IsEndOn command bytes (Some stop) → AnswersUnlessFailed stop.status plant sinks err result
     at_stop stop ending (ended.refused fault r o e) said ends =
         let same : stop_by command fault ≡ stop =
-        cc (end-unique command bytes (Some (stop_by command fault)) (Some stop) (refusal_on fault r) ends) in
-        inl (own_or stop err result (subst (λ x. Said x err result) (e ∙ ap (λ s. Err (Stopped s)) same) said))
+        cc (end-unique unique command bytes (Some (stop_by command fault)) (Some stop) (refusal_on fault r) ends) in
+        inl (inl (own_or stop err result (subst (λ x. Said x err result) (e ∙ ap (λ s. Err (Stopped s)) same) said)))
     at_stop stop ending (ended.failed rose o e) said ends =
         let said_read = own_or (stop_by command top.ReadPlant) err result (subst (λ x. Said x err result) e said) in
-        read_or stop.status plant err result rose (subst (λ s. AnswersOr s err result) (read_status command) said_read)
+        inl (read_or stop.status plant err result rose (subst (λ s. AnswersOr s err result) (read_status command) said_read))
     at_stop stop ending (ended.starved o e) said ends =
-        inl (memory_or stop.status err result (subst (λ x. Said x err result) e said))
-    at_stop stop ending (ended.worked parts says w) said ends = inl (at_stop_of_work stop parts ending says w said ends)
+        inl (inl (memory_or stop.status err result (subst (λ x. Said x err result) e said)))
+    at_stop stop ending (ended.worked parts says w) said ends = at_stop_of_work stop parts ending says w said ends
 
     -- a text on which the command ends with no stop is done, where no device fails and memory is there
     at_end_of_work : (parts : FileParts) (ending : Result (Unit {0}) End) → SaysParts plant parts →
@@ -367,7 +394,7 @@ module _ (words : List (List ℕ)) (plant : SourceUse) (sinks : Sinks) (err : Si
         ¬ Rose sinks.out.before sinks.out.now → ¬ Rose sinks.trace.before sinks.trace.now → ¬ Rose err.before err.now →
         (result ≡ status.Done) ⊎ (result ≡ status.NoMemory)
     at_end_of_work parts ending says (ended.through c work stood e) said ends o t r =
-        let same = end-unique command bytes c.stop None (course_end_on parts c says work) ends in
+        let same = end-unique unique command bytes c.stop None (course_end_on parts c says work) ends in
         let s : IsUnwritten err × (result ≡ status.Done) =
         subst (λ x. Said x err result) (e ∙ ap course_end same) said in
         inl s.1
@@ -382,7 +409,7 @@ module _ (words : List (List ℕ)) (plant : SourceUse) (sinks : Sinks) (err : Si
         ¬ Rose plant.before plant.now → ¬ Rose sinks.out.before sinks.out.now → ¬ Rose sinks.trace.before sinks.trace.now → ¬ Rose err.before err.now →
         (result ≡ status.Done) ⊎ (result ≡ status.NoMemory)
     at_whole ending (ended.refused fault d w e) said ends p o t r =
-        absurd (cc (end-unique command bytes (Some (stop_by command fault)) None (refusal_on fault d) ends))
+        absurd (cc (end-unique unique command bytes (Some (stop_by command fault)) None (refusal_on fault d) ends))
     at_whole ending (ended.failed rose w e) said ends p o t r = absurd (p rose)
     at_whole ending (ended.starved w e) said ends p o t r =
         memory_alone err result (subst (λ x. Said x err result) e said) r
@@ -394,26 +421,34 @@ module _ (words : List (List ℕ)) (plant : SourceUse) (sinks : Sinks) (err : Si
   this_command command k ending a b e =
       let same : k ≡ command = cc (a, b) in subst (λ c. CommandEnded c plant sinks ending) same e
 
-  pub stopped-only : (command : Command) (bytes : List ℕ) (stop : Stop) (ending : Result (Unit {0}) End) →
+  pub refused-only : AreOne → (command : Command) (bytes : List ℕ) (fault : TopFault) (ending : Result (Unit {0}) End) →
+      Ended words plant sinks ending → Said ending err result → command_in words ≡ Ok command →
+      plant.text ≡ Some bytes → IsJudged bytes (Err fault) →
+      AnswersUnlessRead (status_of command fault) plant err result
+  refused-only unique command bytes fault ending (misread at w r o e) said a t judged = absurd (cc (a, w))
+  refused-only unique command bytes fault ending (asked k b e) said a t judged =
+      at_refusal unique command bytes t fault ending (this_command command k ending a b e) said judged
+
+  pub stopped-only : AreOne → (command : Command) (bytes : List ℕ) (stop : Stop) (ending : Result (Unit {0}) End) →
       Ended words plant sinks ending → Said ending err result → command_in words ≡ Ok command →
       plant.text ≡ Some bytes → IsEndOn command bytes (Some stop) →
-      AnswersUnlessRead stop.status plant err result
-  stopped-only command bytes stop ending (misread at w r o e) said a t ends = absurd (cc (a, w))
-  stopped-only command bytes stop ending (asked k b e) said a t ends =
-      at_stop command bytes t stop ending (this_command command k ending a b e) said ends
+      AnswersUnlessFailed stop.status plant sinks err result
+  stopped-only unique command bytes stop ending (misread at w r o e) said a t ends = absurd (cc (a, w))
+  stopped-only unique command bytes stop ending (asked k b e) said a t ends =
+      at_stop unique command bytes t stop ending (this_command command k ending a b e) said ends
 
-  pub complete : (command : Command) (bytes : List ℕ) (ending : Result (Unit {0}) End) →
+  pub complete : AreOne → (command : Command) (bytes : List ℕ) (ending : Result (Unit {0}) End) →
       Ended words plant sinks ending → Said ending err result → command_in words ≡ Ok command →
       plant.text ≡ Some bytes → IsEndOn command bytes None →
       ¬ Rose plant.before plant.now → ¬ Rose sinks.out.before sinks.out.now → ¬ Rose sinks.trace.before sinks.trace.now → ¬ Rose err.before err.now →
       (result ≡ status.Done) ⊎ (result ≡ status.NoMemory)
-  complete command bytes ending (misread at w r still e) said a told ends p o t q = absurd (cc (a, w))
-  complete command bytes ending (asked k b e) said a told ends p o t r =
-      at_whole command bytes told ending (this_command command k ending a b e) said ends p o t r
+  complete unique command bytes ending (misread at w r still e) said a told ends p o t q = absurd (cc (a, w))
+  complete unique command bytes ending (asked k b e) said a told ends p o t r =
+      at_whole unique command bytes told ending (this_command command k ending a b e) said ends p o t r
 
 -- a command has an end on a text that is judged
-pub end-exists : (command : Command) (bytes : List ℕ) (judgement : Judgement) → IsJudged bytes judgement →
+pub end-exists : AreFound → (command : Command) (bytes : List ℕ) (judgement : Judgement) → IsJudged bytes judgement →
     (end : Option Stop) × IsEndOn command bytes end
-end-exists command bytes (Err fault) j = (Some (stop_by command fault), refusal fault j refl)
-end-exists command bytes (Ok parts) j =
-    let work = work-exists command parts (judged-plant bytes parts j) in (work.0.stop, course parts work.0 j work.1 refl)
+end-exists find command bytes (Err fault) j = (Some (stop_by command fault), refusal fault j refl)
+end-exists find command bytes (Ok parts) j =
+    let work = work-exists find command parts (judged-plant bytes parts j) in (work.0.stop, course parts work.0 j work.1 refl)

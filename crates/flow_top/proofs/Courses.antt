@@ -1,100 +1,33 @@
 -- The courses of the commands.
-use Rattle.std.proofs.Common.{◌≡◌, ◌≢◌, ℕ, zero, suc, ◌*◌, ◌<◌, ◌≤◌, ◌++◌, nat_lt, refl, sym, ap, subst, ◌∙◌}
-use Rattle.std.proofs.Common.{Bool, true, false, List, [], Option, Some, None, if◌then◌else◌, arith, codes}
+use Rattle.std.proofs.Common.{◌≡◌, ◌≢◌, ◌⊎◌, inl, inr, ℕ, zero, suc, ◌+◌, ◌-◌, ◌*◌, ◌<◌, ◌≤◌, ◌++◌, refl, sym, ap, subst, ◌∙◌}
+use Rattle.std.proofs.Common.{Bool, true, false, List, [], ◌∷◌, Option, Some, None, arith}
+use Rattle.std.proofs.lemmas.Bool.{cases_lt}
+use Rattle.quant.specs.Interval.{Interval}
 use Rattle.parts.specs.Parts.{FileParts}
 use Rattle.plant.specs.Rows.{streams_of_run}
 use Rattle.plant.specs.Sound.{IsPlant}
-use Rattle.tables.specs.Output.{header, rank_header, rows_of}
+use Rattle.tables.specs.Output.{header, rank_header}
+use Rattle.window_accept.specs.declared.wide.TooWide.{TooWide}
+use Rattle.window_accept.specs.Wide.{IsFirstWide, FindsWide}
 use Rattle.flow_edge.specs.declared.status.Status.TheVariants as status
 use Rattle.flow_top.specs.declared.fault.Stop.{Stop}
-use Rattle.report.specs.declared.fault.TopFault.{TopFault}
-use Rattle.report.specs.declared.fault.TopFault.TheVariants as top
 use Rattle.flow_top.specs.Faults.{own_status, status_of, stop_by}
 use Rattle.flow_top.specs.declared.words.Command.{Command}
-use Rattle.flow_top.specs.declared.words.Command.TheVariants.{Run, Check}
-use Rattle.flow_top.specs.Course.{Course, written, text_of}
+use Rattle.flow_top.specs.declared.words.Command.TheVariants.{Run, Direct, Check}
+use Rattle.flow_top.specs.Course.{Traced, Course, written, text_of}
 use Rattle.flow_top.specs.Courses.{IsCourse, IsWork}
-use Rattle.flow_top.specs.RunCourse.{all_rows, window_rows, traced_in, ticks_in, asks_for_widths, not_built, RunsUnless, RunsWhole, StopsAtOnce}
+use Rattle.flow_top.specs.WindowsCourse.{window_rows, traced_in, first_tick, ticks_in, wide_fault, IsWindowCount, IsNarrowEnough, StopsAfter, all, wide, WritesWindows}
 use Rattle.flow_top.specs.CheckCourse.{IsCheckCourse}
-use Rattle.report.specs.Output.{labels_of}
 use Rattle.report.specs.Ranks.{rank_rows}
-
--- the course of a run that is not built yet
-abbrev pub stopped_course : List ℕ → Course
-stopped_course place = record {
-  header = [];
-  windows = 0;
-  rows = λ w. [];
-  trace = None;
-  stop = Some (stop_by Run (top.NotBuilt place));
-}
-
--- the course of a run in one window, and that of a check
-abbrev pub run_course : FileParts → Course
-run_course parts = record {
-  header = header;
-  windows = 1;
-  rows = λ w. window_rows parts w;
-  trace = Some (traced_in parts);
-  stop = None;
-}
 
 abbrev pub check_course : FileParts → Course
 check_course parts =
     record { header = rank_header; windows = 1; rows = λ w. rank_rows parts; trace = None; stop = None }
 
-pub stopped-work : (parts : FileParts) (place : List ℕ) → IsPlant parts → not_built parts ≡ Some place →
-    IsWork Run parts (stopped_course place)
-stopped-work parts place plant e =
-    let stops : StopsAtOnce place (stopped_course place) = record { header = refl; windows = refl; trace = refl; stop = refl } in
-    record { plant = plant; follows = subst (λ n. RunsUnless n parts (stopped_course place)) (sym e) stops }
-
--- what is built runs in one window
-in_one_window : (more : Bool) (place : List ℕ) (rest : Option (List ℕ)) → (if more then Some place else rest) ≡ None → more ≡ false
-in_one_window true place rest e = absurd (cc e)
-in_one_window false place rest e = refl
-
-not_less : (a b : ℕ) → nat_lt a b ≡ false → b ≤ a
-not_less a b e = grind (arith, e)
-
-pub one-window : (parts : FileParts) → not_built parts ≡ None → parts.ticks ≤ parts.window
-unfolding not_built
-one-window parts e = not_less parts.window parts.ticks (in_one_window (nat_lt parts.window parts.ticks) (codes "run.ticks")
-    (if asks_for_widths parts.width then Some (codes "width") else None) e)
-
-count-one : (ticks window : ℕ) → 1 ≤ ticks → (fewer : ℕ) → ticks ≤ fewer * window → 1 ≤ fewer
-count-one ticks window some zero h = absurd (omega (arith, some, h))
-count-one ticks window some (suc fewer) h = omega arith
-
--- the rows of the one window are all
-pub first-window : (parts : FileParts) → parts.ticks ≤ parts.window → window_rows parts 0 ≡ all_rows parts
-first-window parts h =
-    ap (λ first. rows_of (labels_of parts) (streams_of_run parts) first (ticks_in parts 0)) (omega arith)
-    ∙ ap (rows_of (labels_of parts) (streams_of_run parts) 0) (omega arith)
-
-pub run-work : (parts : FileParts) → IsPlant parts → not_built parts ≡ None → IsWork Run parts (run_course parts)
-run-work parts plant e =
-    let short : parts.ticks ≤ parts.window = one-window parts e in
-    let runs : RunsWhole parts (run_course parts) = record {
-      header = refl;
-      windows = record { enough = omega arith; least = count-one parts.ticks parts.window plant.ranges.ticks.0 };
-      rows = λ w h. refl;
-      trace = refl;
-      stop = refl;
-    } in
-    record { plant = plant; follows = subst (λ n. RunsUnless n parts (run_course parts)) (sym e) runs }
-
-pub run-text : (parts : FileParts) → not_built parts ≡ None → text_of (run_course parts) ≡ header ++ all_rows parts
-run-text parts e = ap (λ rows. header ++ rows) (first-window parts (one-window parts e))
-
 pub check-work : (parts : FileParts) → IsPlant parts → IsWork Check parts (check_course parts)
 check-work parts plant = record { plant = plant; follows = record { header = refl; windows = refl; rows = refl; trace = refl; stop = refl } }
 
 -- a header is not empty
-pub run-writes : (rows : List ℕ) → header ++ rows ≢ []
-unfolding header
-run-writes rows e = cc e
-
 pub run-header : header ≢ []
 unfolding header
 run-header e = cc e
@@ -107,54 +40,87 @@ pub check-writes : (rows : List ℕ) → rank_header ++ rows ≢ []
 unfolding rank_header
 check-writes rows e = cc e
 
--- the courses of a command on one plant have one stop
-runs-agree : (place : Option (List ℕ)) (parts : FileParts) (a b : Course) → RunsUnless place parts a → RunsUnless place parts b →
-    a.stop ≡ b.stop
-runs-agree None parts a b r s = r.stop ∙ sym s.stop
-runs-agree (Some place) parts a b r s = r.stop ∙ sym s.stop
+-- what begins with a text that is not empty is not empty
+longer : (text rest : List ℕ) → text ≢ [] → text ++ rest ≢ []
+longer [] rest some e = absurd (some refl)
+longer (byte ∷ text) rest some e = cc e
 
-pub courses-agree : (command : Command) (parts : FileParts) (a b : Course) → IsCourse command parts a → IsCourse command parts b →
-    a.stop ≡ b.stop
-courses-agree Run parts a b r s = runs-agree (not_built parts) parts a b r s
-courses-agree Check parts a b r s = r.stop ∙ sym s.stop
+pub written-full : (course : Course) → course.header ≡ header → (k : ℕ) → written course k ≢ []
+written-full course same zero e = run-header (sym same ∙ e)
+written-full course same (suc k) e = longer (written course k) (course.rows k) (written-full course same k) e
 
-unbuilt_status : (place : List ℕ) → status_of Run (top.NotBuilt place) ≡ status.Refused
+-- a band that is wider than was asked has its status, whatever the command
+pub wide_status : (command : Command) (parts : FileParts) (place : TooWide) → status_of command (wide_fault parts place) ≡ status.Wide
 unfolding status_of own_status
-unbuilt_status place = refl
+wide_status Run parts place = refl
+wide_status Direct parts place = refl
+wide_status Check parts place = refl
 
--- today a course that stops is one of `run`, writes nothing, and its stop is a refusal
-pub record WritesNothing (command : Command) (course : Course) (stop : Stop) : Type 0 where
-  pub text : text_of course ≡ []
-  pub untraced : course.trace ≡ None
-  pub fault : TopFault
-  pub stop_is : stop_by command fault ≡ stop
-  pub refused : status_of command fault ≡ status.Refused
+wide_stops : (one other : Command) (parts : FileParts) (place : TooWide) →
+    stop_by one (wide_fault parts place) ≡ stop_by other (wide_fault parts place)
+wide_stops one other parts place =
+    ap (λ s. record { fault = wide_fault parts place; status = s }) (wide_status one parts place ∙ sym (wide_status other parts place))
 
-run-stops : (place : Option (List ℕ)) (parts : FileParts) (course : Course) (stop : Stop) → RunsUnless place parts course →
-    course.stop ≡ Some stop → WritesNothing Run course stop
-run-stops None parts course stop r e = absurd (cc (r.stop, e))
-run-stops (Some place) parts course stop r e = record {
-  text = ap (written course) r.windows ∙ r.header;
-  untraced = r.trace;
-  fault = top.NotBuilt place;
-  stop_is = cc (r.stop, e);
-  refused = unbuilt_status place;
-}
+-- windows begin one after another
+begin-later : (v w window : ℕ) → v ≤ w → v * window ≤ w * window
+begin-later v w window h = grind (arith, h)
 
-pub course-stops : (command : Command) (parts : FileParts) (course : Course) (stop : Stop) → IsCourse command parts course →
-    course.stop ≡ Some stop → WritesNothing command course stop
-course-stops Run parts course stop r e = run-stops (not_built parts) parts course stop r e
-course-stops Check parts course stop r e = absurd (cc (r.stop, e))
+too-many : (k windows : ℕ) → suc k ≤ windows → windows ≤ k → ⊥
+too-many k windows h l = omega arith
 
--- each command has a course on a plant
-run-exists : (parts : FileParts) → IsPlant parts → (place : Option (List ℕ)) → not_built parts ≡ place →
-    (course : Course) × IsWork Run parts course
-run-exists parts plant None e = (run_course parts, run-work parts plant e)
-run-exists parts plant (Some place) e = (stopped_course place, stopped-work parts place plant e)
+not-more : (a b c : ℕ) → a ≤ b → b ≤ c → c < a → ⊥
+not-more a b c h l m = omega arith
 
-pub work-exists : (command : Command) (parts : FileParts) → IsPlant parts → (course : Course) × IsWork command parts course
-work-exists Run parts plant = run-exists parts plant (not_built parts) refl
-work-exists Check parts plant = (check_course parts, check-work parts plant)
+compare_le : (a b : ℕ) → (a ≤ b) ⊎ (b < a)
+compare_le a b = search arith
+
+-- a window that is there begins before the last tick
+pub began : (command : Command) (parts : FileParts) (n : ℕ) (stop : Option Stop) → StopsAfter command parts n stop →
+    (k : ℕ) → suc k ≤ n → first_tick parts k < parts.ticks
+began command parts n stop (all count) k h = elim (compare_le parts.ticks (first_tick parts k)) [
+  | inl l ↦ absurd (too-many k n h (count.least k l))
+  | inr l ↦ l
+]
+began command parts n stop (wide place left first) k h =
+    let l : first_tick parts k ≤ first_tick parts n = begin-later k n parts.window (omega arith) in omega (arith, l, left)
+
+-- no window follows where they stop
+pub stops-there : (command : Command) (parts : FileParts) (n : ℕ) (stop : Option Stop) → StopsAfter command parts n stop →
+    first_tick parts n < parts.ticks → IsNarrowEnough parts n → ⊥
+stops-there command parts n stop (all count) left narrow = not-more parts.ticks (first_tick parts n) (first_tick parts n) count.enough (omega arith) left
+stops-there command parts n stop (wide place l first) left narrow = narrow place first.among first.wide_is
+
+-- the first windows of the run that have no band wider than was asked, and why no other follows
+pub record Stops (command : Command) (parts : FileParts) (n : ℕ) (stop : Option Stop) : Type 0 where
+  pub stop_is : StopsAfter command parts n stop
+  pub narrow : (w : ℕ) → w < n → IsNarrowEnough parts w
+
+no-less : (one other : Command) (parts : FileParts) (a b : ℕ) (s t : Option Stop) → Stops one parts a s → Stops other parts b t →
+    a < b → ⊥
+no-less one other parts a b s t p q h =
+    stops-there one parts a s p.stop_is (began other parts b t q.stop_is a (omega arith)) (q.narrow a h)
+
+same-number : (a b : ℕ) → (a < b → ⊥) → (b < a → ⊥) → a ≡ b
+same-number a b h l = elim (compare_le a b) [
+  | inl m ↦ elim (compare_le b a) [ inl n ↦ omega (arith, m, n) | inr n ↦ absurd (h n) ]
+  | inr m ↦ absurd (l m)
+]
+
+-- first places at which a band is wider than was asked are one
+abbrev pub AreOne : Type 0
+AreOne = (parts : FileParts) (bands : ℕ → ℕ → List Interval) (first n : ℕ) (one other : TooWide) →
+    IsFirstWide parts bands first n one → IsFirstWide parts bands first n other → one ≡ other
+
+same-stop : AreOne → (one other : Command) (parts : FileParts) (n : ℕ) (s t : Option Stop) → StopsAfter one parts n s →
+    StopsAfter other parts n t → s ≡ t
+same-stop unique one other parts n s t (all count) (all again) = refl
+same-stop unique one other parts n s t (all count) (wide place left first) =
+    absurd (not-more parts.ticks (first_tick parts n) (first_tick parts n) count.enough (omega arith) left)
+same-stop unique one other parts n s t (wide place left first) (all count) =
+    absurd (not-more parts.ticks (first_tick parts n) (first_tick parts n) count.enough (omega arith) left)
+same-stop unique one other parts n s t (wide place left first) (wide place_b left_b first_b) =
+    let same = unique parts (streams_of_run parts) (first_tick parts n) (ticks_in parts n) place place_b first first_b in
+    ap (λ p. Some (stop_by one (wide_fault parts p))) same ∙ ap Some (wide_stops one other parts place_b)
 
 -- courses with the same header and rows have written the same
 written-agree : (a b : Course) → a.header ≡ b.header → (n : ℕ) → ((w : ℕ) → w < n → a.rows w ≡ b.rows w) → (k : ℕ) → k ≤ n →
@@ -164,39 +130,33 @@ written-agree a b header n rows (suc k) h =
     ap (λ text. text ++ a.rows k) (written-agree a b header n rows k (omega (arith, h)))
     ∙ ap (λ r. written b k ++ r) (rows k (omega (arith, h)))
 
--- two courses of one command on one plant
+-- two courses write the same windows, and stop alike
 pub record Agree (a b : Course) : Type 0 where
   pub windows : a.windows ≡ b.windows
   pub text : (k : ℕ) → k ≤ a.windows → written a k ≡ written b k
-  pub trace : a.trace ≡ b.trace
   pub stop : a.stop ≡ b.stop
-
-no-less : (a b : ℕ) → a ≤ b → b ≤ a → a ≡ b
-no-less a b h l = omega arith
-
-none-below : (w n : ℕ) → w < n → n ≡ 0 → ⊥
-none-below w n h e = omega arith
 
 below : (w n m : ℕ) → w < n → n ≡ m → w < m
 below w n m h e = omega arith
 
-run-agrees : (place : Option (List ℕ)) (parts : FileParts) (a b : Course) → RunsUnless place parts a → RunsUnless place parts b →
-    Agree a b
-run-agrees None parts a b r s =
-    let same = no-less a.windows b.windows (r.windows.least b.windows s.windows.enough) (s.windows.least a.windows r.windows.enough) in
+as-stops : (command : Command) (trace : Option Traced) (parts : FileParts) (course : Course) →
+    WritesWindows command trace parts course → Stops command parts course.windows course.stop
+as-stops command trace parts course is = record { stop_is = is.stop; narrow = is.narrow }
+
+pub windows-agree : AreOne → (one other : Command) (first second : Option Traced) (parts : FileParts) (a b : Course) →
+    WritesWindows one first parts a → WritesWindows other second parts b → Agree a b
+windows-agree unique one other first second parts a b r s =
+    let p = as-stops one first parts a r in
+    let q = as-stops other second parts b s in
+    let same : a.windows ≡ b.windows =
+    same-number a.windows b.windows (no-less one other parts a.windows b.windows a.stop b.stop p q)
+    (no-less other one parts b.windows a.windows b.stop a.stop q p) in
     record {
       windows = same;
       text = written-agree a b (r.header ∙ sym s.header) a.windows
           (λ w h. r.rows w h ∙ sym (s.rows w (below w a.windows b.windows h same)));
-      trace = r.trace ∙ sym s.trace;
-      stop = r.stop ∙ sym s.stop;
-    }
-run-agrees (Some place) parts a b r s =
-    record {
-      windows = r.windows ∙ sym s.windows;
-      text = written-agree a b (r.header ∙ sym s.header) a.windows (λ w h. absurd (none-below w a.windows h r.windows));
-      trace = r.trace ∙ sym s.trace;
-      stop = r.stop ∙ sym s.stop;
+      stop = same-stop unique one other parts b.windows a.stop b.stop
+          (subst (λ n. StopsAfter one parts n a.stop) same r.stop) s.stop;
     }
 
 only-zero : (w n : ℕ) → w < n → n ≡ 1 → w ≡ 0
@@ -208,14 +168,118 @@ check-agrees parts a b r s =
       windows = r.windows ∙ sym s.windows;
       text = written-agree a b (r.header ∙ sym s.header) a.windows
           (λ w h. ap a.rows (only-zero w a.windows h r.windows) ∙ r.rows ∙ sym s.rows ∙ sym (ap b.rows (only-zero w a.windows h r.windows)));
-      trace = r.trace ∙ sym s.trace;
       stop = r.stop ∙ sym s.stop;
     }
 
-pub work-agrees : (command : Command) (parts : FileParts) (a b : Course) → IsCourse command parts a → IsCourse command parts b →
-    Agree a b
-work-agrees Run parts a b r s = run-agrees (not_built parts) parts a b r s
-work-agrees Check parts a b r s = check-agrees parts a b r s
+pub work-agrees : AreOne → (command : Command) (parts : FileParts) (a b : Course) → IsCourse command parts a →
+    IsCourse command parts b → Agree a b
+work-agrees unique Run parts a b r s = windows-agree unique Run Run (Some (traced_in parts)) (Some (traced_in parts)) parts a b r s
+work-agrees unique Direct parts a b r s = windows-agree unique Direct Direct None None parts a b r s
+work-agrees unique Check parts a b r s = check-agrees parts a b r s
+
+pub traces-agree : (command : Command) (parts : FileParts) (a b : Course) → IsCourse command parts a →
+    IsCourse command parts b → a.trace ≡ b.trace
+traces-agree Run parts a b r s = r.trace ∙ sym s.trace
+traces-agree Direct parts a b r s = r.trace ∙ sym s.trace
+traces-agree Check parts a b r s = r.trace ∙ sym s.trace
+
+-- a course that stops does so by a band that is wider than was asked
+pub record StopsByWidth (command : Command) (parts : FileParts) (course : Course) (stop : Stop) : Type 0 where
+  pub place : TooWide
+  pub stop_is : stop ≡ stop_by command (wide_fault parts place)
+  pub first : IsFirstWide parts (streams_of_run parts) (first_tick parts course.windows) (ticks_in parts course.windows) place
+
+stops-by : (command : Command) (parts : FileParts) (course : Course) (found : Option Stop) (stop : Stop) →
+    StopsAfter command parts course.windows found → found ≡ Some stop → StopsByWidth command parts course stop
+stops-by command parts course found stop (all count) e = absurd (cc e)
+stops-by command parts course found stop (wide place left first) e = record { place = place; stop_is = cc e; first = first }
+
+pub course-stops : (command : Command) (parts : FileParts) (course : Course) (stop : Stop) → IsCourse command parts course →
+    course.stop ≡ Some stop → StopsByWidth command parts course stop
+course-stops Run parts course stop r e = stops-by Run parts course course.stop stop r.stop e
+course-stops Direct parts course stop r e = stops-by Direct parts course course.stop stop r.stop e
+course-stops Check parts course stop r e = absurd (cc (r.stop, e))
+
+-- the windows are looked through one after another, of which there are no more than ticks
+abbrev pub AreFound : Type 0
+AreFound = (parts : FileParts) (bands : ℕ → ℕ → List Interval) (first n : ℕ) →
+    (found : Option TooWide) × FindsWide found parts bands first n
+
+enough-windows : (ticks window : ℕ) → 1 ≤ window → ticks ≤ ticks * window
+enough-windows ticks window h = grind (arith, h)
+
+one-more : (P : ℕ → Type 0) (w v : ℕ) → ((u : ℕ) → u < w → P u) → P w → v < suc w → P v
+one-more P w v h p l = elim (compare_le w v) [
+  | inl m ↦ subst P (omega (arith, m, l)) p
+  | inr m ↦ h v m
+]
+
+least-count : (parts : FileParts) (w : ℕ) → ((v : ℕ) → v < w → first_tick parts v < parts.ticks) →
+    (fewer : ℕ) → parts.ticks ≤ fewer * parts.window → w ≤ fewer
+least-count parts w begun fewer h = elim (compare_le w fewer) [
+  | inl l ↦ l
+  | inr l ↦ let b = begun fewer l in absurd (not-more parts.ticks (fewer * parts.window) (fewer * parts.window) h (omega arith) b)
+]
+
+at-window : (command : Command) (parts : FileParts) (w : ℕ) → ((v : ℕ) → v < w → IsNarrowEnough parts v) →
+    first_tick parts w < parts.ticks → (found : Option TooWide) →
+    FindsWide found parts (streams_of_run parts) (first_tick parts w) (ticks_in parts w) →
+    (IsNarrowEnough parts w → (n : ℕ) × (stop : Option Stop) × Stops command parts n stop) →
+    (n : ℕ) × (stop : Option Stop) × Stops command parts n stop
+at-window command parts w narrow left None finds rest = rest finds
+at-window command parts w narrow left (Some place) finds rest =
+    (w, Some (stop_by command (wide_fault parts place)), record { stop_is = wide place left finds; narrow = narrow })
+
+look-through : AreFound → (command : Command) (parts : FileParts) → 1 ≤ parts.window → (d w : ℕ) → w + d ≡ parts.ticks →
+    ((v : ℕ) → v < w → IsNarrowEnough parts v) → ((v : ℕ) → v < w → first_tick parts v < parts.ticks) →
+    (n : ℕ) × (stop : Option Stop) × Stops command parts n stop
+look-through find command parts some zero w e narrow begun =
+    let most : parts.ticks ≤ first_tick parts w =
+    subst (λ n. parts.ticks ≤ n * parts.window) (omega (arith, e)) (enough-windows parts.ticks parts.window some) in
+    (w, None, record { stop_is = all (record { enough = most; least = least-count parts w begun }); narrow = narrow })
+look-through find command parts some (suc d) w e narrow begun = elim (compare_le parts.ticks (first_tick parts w)) [
+  | inl l ↦ (w, None, record { stop_is = all (record { enough = l; least = least-count parts w begun }); narrow = narrow })
+  | inr l ↦ let found = find parts (streams_of_run parts) (first_tick parts w) (ticks_in parts w) in
+      at-window command parts w narrow l found.0 found.1 (λ finds.
+      look-through find command parts some d (suc w) (omega (arith, e))
+      (λ v m. one-more (λ v. IsNarrowEnough parts v) w v narrow finds m)
+      (λ v m. one-more (λ v. first_tick parts v < parts.ticks) w v begun l m))
+]
+
+none-below : (v : ℕ) → v < 0 → ⊥
+none-below v l = omega arith
+
+stops-exist : AreFound → (command : Command) (parts : FileParts) → IsPlant parts →
+    (n : ℕ) × (stop : Option Stop) × Stops command parts n stop
+stops-exist find command parts plant =
+    look-through find command parts plant.ranges.window.0 parts.ticks 0 (omega arith)
+    (λ v l. absurd (none-below v l)) (λ v l. absurd (none-below v l))
+
+-- each command has a course on a plant
+abbrev pub windows_course : Option Traced → FileParts → ℕ → Option Stop → Course
+windows_course trace parts n stop =
+    record { header = header; windows = n; rows = λ w. window_rows parts w; trace = trace; stop = stop }
+
+pub windows-exist : AreFound → (command : Command) (trace : Option Traced) (parts : FileParts) → IsPlant parts →
+    (course : Course) × WritesWindows command trace parts course
+windows-exist find command trace parts plant =
+    let found = stops-exist find command parts plant in (
+      windows_course trace parts found.0 found.1,
+      record {
+        header = refl;
+        rows = λ w h. refl;
+        narrow = found.2.narrow;
+        stop = found.2.stop_is;
+        trace = refl;
+      },
+    )
+
+pub work-exists : AreFound → (command : Command) (parts : FileParts) → IsPlant parts → (course : Course) × IsWork command parts course
+work-exists find Run parts plant =
+    let c = windows-exist find Run (Some (traced_in parts)) parts plant in (c.0, record { plant = plant; follows = c.1 })
+work-exists find Direct parts plant =
+    let c = windows-exist find Direct None parts plant in (c.0, record { plant = plant; follows = c.1 })
+work-exists find Check parts plant = (check_course parts, check-work parts plant)
 
 -- what a check prints
 pub check-printed : (parts : FileParts) (course : Course) → IsCheckCourse parts course → text_of course ≡ rank_header ++ rank_rows parts

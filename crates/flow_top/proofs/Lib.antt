@@ -5,9 +5,9 @@ pub mod Courses
 pub mod Options
 pub mod Pairs
 pub mod Work
-pub mod RunWork
+pub mod Written
 pub mod Causes
 pub mod PlantRows
-pub mod Relaxed
 pub mod Channels
 pub mod RunRows
+pub mod Texts

@@ -1,14 +1,19 @@
 -- The windows of a run together are the run.
 use Rattle.std.proofs.Common.{◌≡◌, ℕ, zero, suc, ◌+◌, ◌-◌, ◌*◌, ◌<◌, ◌≤◌, min, List, ◌++◌, sym, ap, ◌∙◌, append_assoc}
-use Rattle.std.proofs.Common.{arith, append-nil, ◌⊎◌, inl, inr, Option, Some, None}
+use Rattle.std.proofs.Common.{arith, append-nil, Option, Some, None}
 use Rattle.quant.specs.Interval.{Interval}
 use Rattle.parts.specs.Parts.{FileParts}
 use Rattle.plant.specs.Rows.{streams_of_run}
 use Rattle.tables.specs.Output.{Label, header, rows_of, tick_rows}
-use Rattle.flow_top.specs.Course.{Course, written, text_of}
+use Rattle.flow_top.specs.Course.{Traced, Course, written, text_of}
 use Rattle.report.specs.Output.{labels_of}
+use Rattle.flow_top.specs.declared.words.Command.{Command}
+use Rattle.flow_top.specs.declared.words.Command.TheVariants.{Run, Direct, Check}
+use Rattle.flow_top.specs.declared.fault.Stop.{Stop}
+use Rattle.flow_top.specs.Courses.{IsCourse, WritesRun}
 use Rattle.plant.specs.Sound.{IsPlant}
-use Rattle.flow_top.specs.RunCourse.{all_rows, first_tick, ticks_in, window_rows, RunsWhole, RunsUnless, IsRunCourse, not_built}
+use Rattle.flow_top.specs.WindowsCourse.{all_rows, first_tick, ticks_in, window_rows, traced_in, IsWindowCount, StopsAfter, all, wide, WritesWindows}
+use Rattle.flow_top.proofs.Courses.{began}
 
 -- the rows of some ticks and of those after them
 rows-joined : (labels : List Label) (bands : ℕ → ℕ → List Interval) (first n m : ℕ) →
@@ -32,89 +37,72 @@ ticks-so-far : (before window ticks : ℕ) → before < ticks →
     (min before ticks ≡ before) × (before + min window (ticks - before) ≡ min (before + window) ticks)
 ticks-so-far before window ticks h = (omega arith, omega arith)
 
-too-many : (k windows : ℕ) → suc k ≤ windows → windows ≤ k → ⊥
-too-many k windows h l = omega arith
-
-compare_le : (a b : ℕ) → (a ≤ b) ⊎ (b < a)
-compare_le a b = search arith
-
 whole : (ticks most : ℕ) → ticks ≤ most → min most ticks ≡ ticks
 whole ticks most h = omega arith
 
--- a window that is there has begun before the last tick
-began : (parts : FileParts) (course : Course) → RunsWhole parts course → (k : ℕ) → suc k ≤ course.windows →
-    k * parts.window < parts.ticks
-began parts course runs k h = elim (compare_le parts.ticks (k * parts.window)) [
-  | inl l ↦ absurd (too-many k course.windows h (runs.windows.least k l))
-  | inr l ↦ l
-]
+-- where nothing stops them, the windows have all ticks
+counted : (command : Command) (parts : FileParts) (n : ℕ) (stop : Option Stop) → StopsAfter command parts n stop → stop ≡ None →
+    IsWindowCount parts n
+counted command parts n stop (all count) e = count
+counted command parts n stop (wide place left first) e = absurd (cc e)
 
 -- what the first k windows have written
-first-windows : (parts : FileParts) (course : Course) → RunsWhole parts course → (k : ℕ) → k ≤ course.windows →
+module _ (command : Command) (trace : Option Traced) (parts : FileParts) (course : Course)
+    (runs : WritesWindows command trace parts course) where
+  pub first-windows : (k : ℕ) → k ≤ course.windows →
+      written course k ≡ header ++ rows_of (labels_of parts) (streams_of_run parts) 0 (min (k * parts.window) parts.ticks)
+  first-windows zero h =
+      let none : min (0 * parts.window) parts.ticks ≡ 0 = omega arith in
+      runs.header ∙ sym (append-nil header)
+      ∙ ap (λ n. header ++ rows_of (labels_of parts) (streams_of_run parts) 0 n) (sym none)
+  first-windows (suc k) h =
+      let labels = labels_of parts in
+      let bands = streams_of_run parts in
+      let first = k * parts.window in
+      let begun : first < parts.ticks = began command parts course.windows course.stop runs.stop k h in
+      let counts = ticks-so-far first parts.window parts.ticks begun in
+      let so_far = rows_of labels bands 0 (min first parts.ticks) in
+      let joined : first + ticks_in parts k ≡ min (suc k * parts.window) parts.ticks =
+      counts.1 ∙ ap (λ n. min n parts.ticks) (sym (one-more k parts.window)) in
+      ap (λ text. text ++ course.rows k) (first-windows k (omega (arith, h)))
+      ∙ ap (λ rows. (header ++ so_far) ++ rows) (runs.rows k (omega (arith, h)))
+      ∙ append_assoc header so_far (window_rows parts k)
+      ∙ ap (λ n. header ++ (rows_of labels bands 0 n ++ window_rows parts k)) counts.0
+      ∙ ap (λ f. header ++ (rows_of labels bands 0 first ++ rows_of labels bands f (ticks_in parts k))) (omega arith)
+      ∙ ap (λ rows. header ++ rows) (sym (rows-joined labels bands 0 first (ticks_in parts k)))
+      ∙ ap (λ n. header ++ rows_of labels bands 0 n) joined
+
+  -- the whole text of a run that nothing stops
+  pub runs-text : course.stop ≡ None → text_of course ≡ header ++ all_rows parts
+  runs-text whole_run =
+      let count : IsWindowCount parts course.windows = counted command parts course.windows course.stop runs.stop whole_run in
+      let most : min (course.windows * parts.window) parts.ticks ≡ parts.ticks =
+      whole parts.ticks (course.windows * parts.window) count.enough in
+      first-windows course.windows (omega arith)
+      ∙ ap (λ n. header ++ rows_of (labels_of parts) (streams_of_run parts) 0 n) most
+
+-- of `run` and of `direct`
+pub work-windows : (command : Command) (parts : FileParts) (course : Course) → WritesRun command → IsCourse command parts course →
+    (k : ℕ) → k ≤ course.windows →
     written course k ≡ header ++ rows_of (labels_of parts) (streams_of_run parts) 0 (min (k * parts.window) parts.ticks)
-first-windows parts course runs zero h =
-    let none : min (0 * parts.window) parts.ticks ≡ 0 = omega arith in
-    runs.header ∙ sym (append-nil header)
-    ∙ ap (λ n. header ++ rows_of (labels_of parts) (streams_of_run parts) 0 n) (sym none)
-first-windows parts course runs (suc k) h =
-    let labels = labels_of parts in
-    let bands = streams_of_run parts in
-    let first = k * parts.window in
-    let begun : first < parts.ticks = began parts course runs k h in
-    let counts = ticks-so-far first parts.window parts.ticks begun in
-    let so_far = rows_of labels bands 0 (min first parts.ticks) in
-    let joined : first + ticks_in parts k ≡ min (suc k * parts.window) parts.ticks =
-    counts.1 ∙ ap (λ n. min n parts.ticks) (sym (one-more k parts.window)) in
-    ap (λ text. text ++ course.rows k) (first-windows parts course runs k (omega (arith, h)))
-    ∙ ap (λ rows. (header ++ so_far) ++ rows) (runs.rows k (omega (arith, h)))
-    ∙ append_assoc header so_far (window_rows parts k)
-    ∙ ap (λ n. header ++ (rows_of labels bands 0 n ++ window_rows parts k)) counts.0
-    ∙ ap (λ f. header ++ (rows_of labels bands 0 first ++ rows_of labels bands f (ticks_in parts k))) (omega arith)
-    ∙ ap (λ rows. header ++ rows) (sym (rows-joined labels bands 0 first (ticks_in parts k)))
-    ∙ ap (λ n. header ++ rows_of labels bands 0 n) joined
+work-windows Run parts course w is k h = first-windows Run (Some (traced_in parts)) parts course is k h
+work-windows Direct parts course w is k h = first-windows Direct None parts course is k h
+work-windows Check parts course w is k h = absurd w
 
--- the whole text of a run
-runs-text : (parts : FileParts) (course : Course) → RunsWhole parts course → text_of course ≡ header ++ all_rows parts
-runs-text parts course runs =
-    let all : min (course.windows * parts.window) parts.ticks ≡ parts.ticks = whole parts.ticks (course.windows * parts.window) runs.windows.enough in
-    first-windows parts course runs course.windows (omega arith)
-    ∙ ap (λ n. header ++ rows_of (labels_of parts) (streams_of_run parts) 0 n) all
-
-unless-text : (place : Option (List ℕ)) (parts : FileParts) (course : Course) → RunsUnless place parts course →
+pub work-text : (command : Command) (parts : FileParts) (course : Course) → WritesRun command → IsCourse command parts course →
     course.stop ≡ None → text_of course ≡ header ++ all_rows parts
-unless-text None parts course runs e = runs-text parts course runs
-unless-text (Some place) parts course stops e = absurd (cc (stops.stop, e))
-
--- a run that nothing stops prints the header and the rows of every tick
-pub run-printed : (parts : FileParts) (course : Course) → IsRunCourse parts course → course.stop ≡ None →
-    text_of course ≡ header ++ all_rows parts
-run-printed parts course is e = unless-text (not_built parts) parts course is e
-
-unless-windows : (place : Option (List ℕ)) (parts : FileParts) (course : Course) → RunsUnless place parts course →
-    course.stop ≡ None → (k : ℕ) → k ≤ course.windows →
-    written course k ≡ header ++ rows_of (labels_of parts) (streams_of_run parts) 0 (min (k * parts.window) parts.ticks)
-unless-windows None parts course runs e k h = first-windows parts course runs k h
-unless-windows (Some place) parts course stops e k h = absurd (cc (stops.stop, e))
-
-pub run-windows : (parts : FileParts) (course : Course) → IsRunCourse parts course → course.stop ≡ None → (k : ℕ) →
-    k ≤ course.windows →
-    written course k ≡ header ++ rows_of (labels_of parts) (streams_of_run parts) 0 (min (k * parts.window) parts.ticks)
-run-windows parts course is e k h = unless-windows (not_built parts) parts course is e k h
+work-text Run parts course w is e = runs-text Run (Some (traced_in parts)) parts course is e
+work-text Direct parts course w is e = runs-text Direct None parts course is e
+work-text Check parts course w is e = absurd w
 
 -- a window that is there has ticks of the plant's, few of them
 inside_of : (first window ticks : ℕ) → 1 ≤ window → window ≤ 64 → first < ticks →
     (1 ≤ min window (ticks - first)) × (min window (ticks - first) ≤ 64) × (first + min window (ticks - first) ≤ ticks)
 inside_of first window ticks some few begun = (omega arith, omega arith, omega arith)
 
-unless-inside : (place : Option (List ℕ)) (parts : FileParts) (course : Course) → IsPlant parts → RunsUnless place parts course →
-    course.stop ≡ None → (w : ℕ) → w < course.windows →
+pub window-inside : (command : Command) (trace : Option Traced) (parts : FileParts) (course : Course) → IsPlant parts →
+    WritesWindows command trace parts course → (w : ℕ) → w < course.windows →
     (1 ≤ ticks_in parts w) × (ticks_in parts w ≤ 64) × (first_tick parts w + ticks_in parts w ≤ parts.ticks)
-unless-inside None parts course plant runs e w h =
+window-inside command trace parts course plant runs w h =
     inside_of (first_tick parts w) parts.window parts.ticks plant.ranges.window.0 plant.ranges.window.1
-    (began parts course runs w (omega (arith, h)))
-unless-inside (Some place) parts course plant stops e w h = absurd (cc (stops.stop, e))
-
-pub window-inside : (parts : FileParts) (course : Course) → IsPlant parts → IsRunCourse parts course → course.stop ≡ None →
-    (w : ℕ) → w < course.windows →
-    (1 ≤ ticks_in parts w) × (ticks_in parts w ≤ 64) × (first_tick parts w + ticks_in parts w ≤ parts.ticks)
-window-inside parts course plant is e w h = unless-inside (not_built parts) parts course plant is e w h
+    (began command parts course.windows course.stop runs.stop w (omega (arith, h)))

@@ -5,19 +5,16 @@ use Rattle.flow_edge.specs.Sink.{Gives, GivesFront}
 use Rattle.parts.specs.Parts.{FileParts}
 use Rattle.plant.specs.Sound.{IsPlant}
 use Rattle.flow_top.specs.declared.words.Command.{Command}
-use Rattle.flow_top.specs.declared.words.Command.TheVariants.{Run}
 use Rattle.flow_top.specs.declared.fault.End.{End}
 use Rattle.flow_top.specs.declared.fault.End.TheVariants.{Stopped, NoMemory}
-use Rattle.report.specs.declared.fault.TopFault.TheVariants.{NotBuilt, WriteOut}
+use Rattle.report.specs.declared.fault.TopFault.TheVariants.{WriteOut}
 use Rattle.flow_top.specs.Faults.{stop_by}
 use Rattle.flow_top.specs.Course.{Course, text_of}
 use Rattle.flow_top.specs.Courses.{IsWork}
-use Rattle.flow_top.specs.RunCourse.{not_built}
 use Rattle.flow_top.specs.Uses.{SourceUse, SinkUse, Sinks, IsUnwritten, AreUnwritten}
 use Rattle.flow_top.specs.Ended.{TraceStood, TraceFront, output, WorkEnded, through, broken, early, within, course_end, CommandEnded, refused, failed, starved}
 use Rattle.flow_top.specs.Steps.{PieceEnded, PlantEnded, refusal, failure}
-use Rattle.flow_top.proofs.Courses.{stopped_course, stopped-work}
-use Rattle.flow_top.proofs.Writes.{front-longer, front-after, both-given, rose-later, nothing-given}
+use Rattle.flow_top.proofs.Writes.{front-longer, front-after, both-given, rose-later}
 
 -- an error that is this end
 pub this-end : (r : Result (Unit {0}) End) (end : End) → IsErrAnd r (λ e. e ≡ end) → r ≡ Err end
@@ -81,20 +78,6 @@ module _ (command : Command) (parts : FileParts) (course : Course) (header rows 
       (output (record { front = all; fault = rose-later before between now counted e.0.fault }) front_none)
       (ap (λ s. Err (Stopped s)) e.1)
   second-ended had mid has before between now (Err NoMemory) text some whole first counted e = absurd e
-
--- a run that is not built yet
-pub unbuilt-ended : (parts : FileParts) (place : List ℕ) (sinks : Sinks) (end : End) → IsPlant parts →
-    not_built parts ≡ Some place → AreUnwritten sinks →
-    (end ≡ Stopped (stop_by Run (NotBuilt place))) ⊎ (end ≡ NoMemory) → WorkEnded Run parts sinks (Err end)
-unbuilt-ended parts place sinks end plant e still (inl h) =
-    through (stopped_course place) (stopped-work parts place plant e)
-    (record {
-      few = omega arith;
-      output = subst (λ o. Gives sinks.out.had o []) (sym still.out.text) (nothing-given sinks.out.had);
-      trace = still.trace;
-      silent = λ none. still.out;
-    }) (ap Err h)
-unbuilt-ended parts place sinks end plant e still (inr h) = early still (ap Err h)
 
 -- a command that ends without a plant
 pub plantless-ended : (command : Command) (end : End) (plant : SourceUse) (sinks : Sinks) → AreUnwritten sinks →

@@ -56,16 +56,26 @@ pub record WroteFront (fault : TopFault) (words : List (List ℕ)) (plant : Sour
   pub at : IsAtWork words plant
   pub broke : BrokeOff at.course sinks fault
 
--- the words are a command, which ends on the text of the plant source in this fault with this status; its line was given, and
--- nothing in the output or the trace
-pub record SaysStop (own : Status) (words : List (List ℕ)) (plant : SourceUse) (sinks : Sinks) (err : SinkUse) : Type 0 where
+-- the words are a command, and the text of the plant source is refused by this fault, which the command gives this status; its line
+-- was given, and nothing in the output or the trace
+pub record SaysRefusal (own : Status) (words : List (List ℕ)) (plant : SourceUse) (sinks : Sinks) (err : SinkUse) : Type 0 where
   pub command : Command
   pub fault : TopFault
   pub asked : command_in words ≡ Ok command
-  pub ends : IfSome plant.text (λ bytes. IsEndOn command bytes (Some (stop_by command fault)))
+  pub refused : IfSome plant.text (λ bytes. IsJudged bytes (Err fault))
   pub status : status_of command fault ≡ own
   pub line : WasGiven err (fault_line fault)
   pub silent : AreUnwritten sinks
+
+-- a course has a stop, by this fault with this status; the whole text before it was given, with a legal trace of it, and its line
+pub record SaysStop (own : Status) (words : List (List ℕ)) (plant : SourceUse) (sinks : Sinks) (err : SinkUse) : Type 0 where
+  pub at : IsAtWork words plant
+  pub fault : TopFault
+  pub stop : at.course.stop ≡ Some (stop_by at.command fault)
+  pub status : status_of at.command fault ≡ own
+  pub output : WasGiven sinks.out (text_of at.course)
+  pub trace : TraceStood at.course.trace at.course.windows sinks.trace
+  pub line : WasGiven err (fault_line fault)
 
 -- the words are refused at this position, the line of it was given, and nothing else was read or written
 pub record SaysWords (words : List (List ℕ)) (plant : SourceUse) (sinks : Sinks) (err : SinkUse) : Type 0 where
@@ -96,12 +106,12 @@ pub record SaysMemory (words : List (List ℕ)) (plant : SourceUse) (sinks : Sin
 abbrev pub CauseSaid : Status → List (List ℕ) → SourceUse → Sinks → SinkUse → Type 0
 CauseSaid status.Done words plant sinks err = WroteAll words plant sinks × IsUnwritten err
 CauseSaid status.Words words plant sinks err = SaysWords words plant sinks err
-CauseSaid status.Refused words plant sinks err = SaysStop status.Refused words plant sinks err
-CauseSaid status.Wide words plant sinks err = ⊥
+CauseSaid status.Refused words plant sinks err = SaysRefusal status.Refused words plant sinks err
+CauseSaid status.Wide words plant sinks err = SaysStop status.Wide words plant sinks err
 CauseSaid status.ReadFault words plant sinks err = SaysReadFault plant sinks err
 CauseSaid status.WriteFault words plant sinks err = SaysWriteFault words plant sinks err
 CauseSaid status.NoMemory words plant sinks err = SaysMemory words plant sinks err
-CauseSaid status.No words plant sinks err = SaysStop status.No words plant sinks err
+CauseSaid status.No words plant sinks err = SaysRefusal status.No words plant sinks err
 
 -- the errors failed in the midst of the line of another status, whose cause stands but for that line
 pub record SaysNothing (words : List (List ℕ)) (plant : SourceUse) (sinks : Sinks) (err : SinkUse) : Type 0 where
@@ -124,3 +134,9 @@ AnswersOr own err result =
 abbrev pub AnswersUnlessRead : Status → SourceUse → SinkUse → Status → Type 0
 AnswersUnlessRead own plant err result =
     AnswersOr own err result ⊎ ((result ≡ status.ReadFault) × Rose plant.before plant.now)
+
+-- the same, or that of a write fault, where one of the output or of the trace was counted
+abbrev pub AnswersUnlessFailed : Status → SourceUse → Sinks → SinkUse → Status → Type 0
+AnswersUnlessFailed own plant sinks err result =
+    AnswersUnlessRead own plant err result
+    ⊎ ((result ≡ status.WriteFault) × (Rose sinks.out.before sinks.out.now ⊎ Rose sinks.trace.before sinks.trace.now))

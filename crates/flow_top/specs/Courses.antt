@@ -2,14 +2,21 @@
 use Rattle.parts.specs.Parts.{FileParts}
 use Rattle.plant.specs.Sound.{IsPlant}
 use Rattle.flow_top.specs.declared.words.Command.{Command}
-use Rattle.flow_top.specs.declared.words.Command.TheVariants.{Run, Check}
+use Rattle.flow_top.specs.declared.words.Command.TheVariants.{Run, Direct, Check}
 use Rattle.flow_top.specs.Course.{Course}
-use Rattle.flow_top.specs.RunCourse.{IsRunCourse}
+use Rattle.flow_top.specs.WindowsCourse.{IsRunCourse, IsDirectCourse}
 use Rattle.flow_top.specs.CheckCourse.{IsCheckCourse}
 
 abbrev pub IsCourse : Command → FileParts → Course → Type 0
 IsCourse Run parts course = IsRunCourse parts course
+IsCourse Direct parts course = IsDirectCourse parts course
 IsCourse Check parts course = IsCheckCourse parts course
+
+-- the command writes the rows of the interval run
+abbrev pub WritesRun : Command → Type 0
+WritesRun Run = Unit {0}
+WritesRun Direct = Unit {0}
+WritesRun Check = ⊥
 
 -- the parts are a plant, and this is what the command does on it
 pub record IsWork (command : Command) (parts : FileParts) (course : Course) : Type 0 where

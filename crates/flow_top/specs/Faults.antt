@@ -70,7 +70,6 @@ own_status (top.UnknownPlace at) = status.Refused
 own_status (top.Order at) = status.Refused
 own_status (top.Outside at) = status.Refused
 own_status (top.FeedTooLong at) = status.Refused
-own_status (top.NotBuilt place) = status.Refused
 own_status (top.Wide stream channel tick width limit) = status.Wide
 own_status top.ReadPlant = status.ReadFault
 own_status top.ReadExtra = status.ReadFault

@@ -2,7 +2,7 @@ pub mod Words
 pub mod Faults
 pub mod Judged
 pub mod Course
-pub mod RunCourse
+pub mod WindowsCourse
 pub mod CheckCourse
 pub mod Courses
 pub mod Uses

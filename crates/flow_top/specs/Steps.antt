@@ -1,6 +1,6 @@
 -- Words of the proofs: a reader of the contracts needs none of them.
 -- What the private steps of the call do.
-use Rattle.std.specs.Prelude.{◌≡◌, ◌+◌, ◌<◌, ◌≤◌, List, [], ℕ, length, slice_index_or, Result, Ok, Err}
+use Rattle.std.specs.Prelude.{◌≡◌, ◌+◌, ◌≤◌, min, Bool, true, false, List, ℕ, Option, Some, None, Result, Ok, Err}
 use Rattle.flow_edge.specs.Faults.{Rose}
 use Rattle.parts.specs.Parts.{FileParts}
 use Rattle.plant.specs.Sound.{IsPlant}
@@ -16,15 +16,20 @@ use Rattle.flow_top.specs.Faults.{stop_by}
 use Rattle.flow_top.specs.Judged.{Judgement}
 use Rattle.flow_top.specs.Uses.{SourceUse, SinkUse, Sinks, IsUnwritten, WasGiven, Broke}
 use Rattle.flow_top.specs.Ended.{SaysParts, IsRefused}
-use Rattle.flow_top.specs.RunCourse.{first_tick, ticks_in, window_rows}
-use Rattle.relaxation.specs.Tube.{at}
-use Rattle.plant_streams.specs.Streams.{streams_of}
+use Rattle.flow_top.specs.WindowsCourse.{first_tick, ticks_in, window_rows, wide_fault, IsNarrowEnough}
+use Rattle.flow_top.specs.declared.windows.Texts.{Texts}
+use Rattle.feeds.specs.Reader.{ReaderOf}
+use Rattle.window_accept.specs.declared.wide.TooWide.{TooWide}
+use Rattle.window_accept.specs.Wide.{IsFirstWide}
+use Rattle.window_accept.specs.Session.{SessionOf, IsSession, FollowsRun}
+use Rattle.flow_top.specs.declared.words.Command.TheVariants.{Run, Direct, Check}
 use Rattle.plant.specs.Rows.{streams_of_run}
 use Rattle.renewal.specs.Plan.{window_of}
 use Rattle.feeds.specs.Given.{run_plan}
 use Rattle.relax_core.specs.Board.{RowOf}
-use Rattle.relax_core.specs.Settled.{WindowOf, IsWindow, Settles}
+use Rattle.relax_core.specs.Settled.{Settles}
 use Rattle.report.specs.Trace.{names_of, trace_rows}
+use Rattle.tables.specs.Steps.{trace_header}
 
 -- a fact of the judgement that was found, unless memory ran out
 abbrev pub Finds : (Judgement → Type 0) → Result FileParts Unfit → Type 0
@@ -54,12 +59,18 @@ PieceEnded command fault (Ok done) sink piece = WasGiven sink piece
 PieceEnded command fault (Err (Stopped stop)) sink piece = Broke sink piece × (stop ≡ stop_by command fault)
 PieceEnded command fault (Err NoMemory) sink piece = ⊥
 
--- a text was written to the output and then one to the trace; or a sink failed, which stops the command
-pub data PairEnded (command : Command) (sinks : Sinks) (rows steps : List ℕ) : Result (Unit {0}) End → Type 0 where
-  whole : WasGiven sinks.out rows → WasGiven sinks.trace steps → PairEnded command sinks rows steps (Ok tt)
+-- to the trace: the text was written; or there is none, and nothing was
+abbrev pub GivesSteps : SinkUse → Option (List ℕ) → Type 0
+GivesSteps trace None = IsUnwritten trace
+GivesSteps trace (Some text) = WasGiven trace text
+
+-- a text was written to the output and then, where there is one, one to the trace; or a sink failed, which stops the command
+pub data PairEnded (command : Command) (sinks : Sinks) (rows : List ℕ) (steps : Option (List ℕ)) :
+    Result (Unit {0}) End → Type 0 where
+  whole : WasGiven sinks.out rows → GivesSteps sinks.trace steps → PairEnded command sinks rows steps (Ok tt)
   output : Broke sinks.out rows → IsUnwritten sinks.trace →
       PairEnded command sinks rows steps (Err (Stopped (stop_by command WriteOut)))
-  trace : WasGiven sinks.out rows → Broke sinks.trace steps →
+  trace : (text : List ℕ) → steps ≡ Some text → WasGiven sinks.out rows → Broke sinks.trace text →
       PairEnded command sinks rows steps (Err (Stopped (stop_by command WriteTrace)))
 
 -- no count of faults fell
@@ -67,18 +78,61 @@ pub record AreCounted (sinks : Sinks) : Type 0 where
   pub out : sinks.out.before ≤ sinks.out.now
   pub trace : sinks.trace.before ≤ sinks.trace.now
 
--- the window is that of the interval run at these ticks, and its rows settle it
-pub record IsRelaxed (parts : FileParts) (first n : ℕ) (window : WindowOf) : Type 0 where
-  pub window_is : IsWindow parts window
-  pub first_is : window.first ≡ first
-  pub ticks_are : window.ticks ≡ n
-  pub run : (t s : ℕ) → t < n → s < length (streams_of parts) →
-      at (slice_index_or window.tubes s []) t ≡ streams_of_run parts (first + t) s
-  pub settles : Settles (window_of (run_plan parts first n)) window.steps
+-- the command writes a trace
+abbrev pub traces : Command → Bool
+traces Run = true
+traces Direct = false
+traces Check = false
+
+-- the header of its trace, where it writes one
+abbrev pub header_of_steps : Command → Option (List ℕ)
+header_of_steps Run = Some trace_header
+header_of_steps Direct = None
+header_of_steps Check = None
+
+-- the command writes the windows of the interval run, relaxed or stepped
+abbrev pub WritesBy : Command → Bool → Type 0
+WritesBy Run relaxes = relaxes ≡ true
+WritesBy Direct relaxes = relaxes ≡ false
+WritesBy Check relaxes = ⊥
+
+-- the text of a window for the trace: the rows of some steps that settle it; or none, where windows are stepped
+abbrev pub AreSteps : Bool → FileParts → ℕ → Option (List ℕ) → Type 0
+AreSteps true parts w None = ⊥
+AreSteps true parts w (Some text) =
+    (made : List RowOf) × Settles (window_of (run_plan parts (first_tick parts w) (ticks_in parts w))) made
+    × (text ≡ trace_rows (names_of parts) w made)
+AreSteps false parts w steps = steps ≡ None
 
 -- the texts of a window, for the output and for the trace
-pub record AreTexts (parts : FileParts) (w : ℕ) (rows steps : List ℕ) : Type 0 where
+pub record AreTexts (relaxes : Bool) (parts : FileParts) (w : ℕ) (rows : List ℕ) (steps : Option (List ℕ)) : Type 0 where
   pub rows_are : rows ≡ window_rows parts w
-  pub made : List RowOf
-  pub settles : Settles (window_of (run_plan parts (first_tick parts w) (ticks_in parts w))) made
-  pub steps_are : steps ≡ trace_rows (names_of parts) w made
+  pub steps_are : AreSteps relaxes parts w steps
+
+-- a session before window w of the plant's interval run, and a reader that was asked no further
+pub record IsAlong (w : ℕ) (session : SessionOf) (reader : ReaderOf) : Type 0 where
+  pub session_is : IsSession session
+  pub tick : session.tick ≡ min (first_tick session.parts w) session.parts.ticks
+  pub follows : FollowsRun session
+  pub unended : session.end ≡ None
+  pub asked : reader.asked ≤ session.tick
+  pub faultless : reader.fault ≡ None
+
+-- the next window's texts were made
+pub record HasTexts (relaxes : Bool) (parts : FileParts) (w : ℕ) (session : SessionOf) (reader : ReaderOf) (texts : Texts) : Type 0 where
+  pub texts_are : AreTexts relaxes parts w texts.rows texts.steps
+  pub narrow : IsNarrowEnough parts w
+  pub same : session.parts ≡ parts
+  pub along : IsAlong (w + 1) session reader
+
+-- the next window has a band that is wider than was asked
+pub record IsStoppedAt (command : Command) (parts : FileParts) (w : ℕ) (stop : Stop) : Type 0 where
+  pub place : TooWide
+  pub first : IsFirstWide parts (streams_of_run parts) (first_tick parts w) (ticks_in parts w) place
+  pub stop_is : stop ≡ stop_by command (wide_fault parts place)
+
+-- how making the next window's texts ended
+abbrev pub TextsEnded : Command → Bool → FileParts → ℕ → SessionOf → ReaderOf → Result Texts End → Type 0
+TextsEnded command relaxes parts w session reader (Ok texts) = HasTexts relaxes parts w session reader texts
+TextsEnded command relaxes parts w session reader (Err (Stopped stop)) = IsStoppedAt command parts w stop
+TextsEnded command relaxes parts w session reader (Err NoMemory) = Unit {0}

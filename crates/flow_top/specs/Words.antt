@@ -1,7 +1,7 @@
 -- The words of the command line.
 use Rattle.std.specs.Prelude.{◌+◌, ◌&&◌, ℕ, Bool, List, [], ◌∷◌, Option, Some, None, is_none, length, nat_eq, Result, Ok, Err, codes, bytes_eq, if◌then◌else◌}
 use Rattle.flow_top.specs.declared.words.Command.{Command}
-use Rattle.flow_top.specs.declared.words.Command.TheVariants.{Run, Check}
+use Rattle.flow_top.specs.declared.words.Command.TheVariants.{Run, Direct, Check}
 use Rattle.flow_top.specs.declared.words.Request.{Request}
 use Rattle.flow_top.specs.declared.words.Files.{Files}
 
@@ -9,6 +9,7 @@ use Rattle.flow_top.specs.declared.words.Files.{Files}
 abbrev pub command_named : List ℕ → Option Command
 command_named word =
     if bytes_eq word (codes "run") then Some Run
+    else if bytes_eq word (codes "direct") then Some Direct
     else if bytes_eq word (codes "check") then Some Check
     else None
 
@@ -33,8 +34,8 @@ options_in at request (name ∷ value ∷ rest) =
 abbrev pub asked_of : Option Command → List (List ℕ) → Result Request ℕ
 asked_of None rest = Err 1
 asked_of (Some Run) rest = options_in 2 (record { command = Run; journal = None }) rest
-asked_of (Some Check) [] = Ok (record { command = Check; journal = None })
-asked_of (Some Check) (word ∷ rest) = Err 2
+asked_of (Some command) [] = Ok (record { command = command; journal = None })
+asked_of (Some command) (word ∷ rest) = Err 2
 
 -- What the words ask for; or the position of the first word that does not fit, counted from 1, or one past the last where a word is
 -- missing.

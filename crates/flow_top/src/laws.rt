@@ -13,12 +13,15 @@ ghost use Rattle.flow_top.specs.declared.words.Command.{Command};
 ghost use Rattle.flow_top.specs.declared.fault.Stop.{Stop};
 ghost use Rattle.flow_top.specs.Judged.{Judgement, IsJudged};
 ghost use Rattle.flow_top.specs.Course.{Course, written, text_of};
-ghost use Rattle.flow_top.specs.Courses.{IsWork};
+ghost use Rattle.flow_top.specs.Courses.{IsWork, WritesRun};
 ghost use Rattle.relaxation.specs.Tube.{tube_of};
 ghost use Rattle.relaxation.specs.Core.{last_of, reached};
 ghost use Rattle.relax_core.specs.Board.{RowOf, step_in};
 ghost use Rattle.relax_core.specs.Settled.{Settles};
-ghost use Rattle.flow_top.specs.RunCourse.{all_rows, traced_in, first_tick, ticks_in};
+ghost use Rattle.flow_top.specs.WindowsCourse.{all_rows, traced_in, first_tick, ticks_in, wide_fault};
+ghost use Rattle.flow_top.specs.Faults.{stop_by};
+ghost use Rattle.window_accept.specs.declared.wide.TooWide.{TooWide};
+ghost use Rattle.window_accept.specs.Wide.{IsFirstWide};
 ghost use Rattle.report.specs.Output.{labels_of};
 ghost use Rattle.report.specs.Trace.{names_of, trace_rows, IsTrace};
 ghost use Rattle.report.specs.Ranks.{rank_rows};
@@ -33,17 +36,24 @@ use plant::{built_plants_are_plants, verdicts_exist};
 use relaxation::legal_steps_keep_the_run;
 use renewal::windows_are_open;
 use report::traces_settle_their_windows;
+use window_accept::{first_wide_places_are_one, wide_places_are_found};
 
 /// What a command at work on a plant prints, as the clauses of `flow_top` on done work, on want of memory and on a failed output
 /// give it.
 pub fn courses_print_the_run()
-    // After k windows of `run`: the header and the rows of the ticks of these windows, which together are the interval run.
-    ensures windows { (words : List (List ℕ)) (plant : SourceUse) (at : IsAtWork words plant) → at.command ≡ Command.Run →
-        at.course.stop ≡ None → (k : ℕ) → k ≤ at.course.windows →
-        written at.course k ≡ header ++
+    // After k windows of `run` or `direct`: the header and the rows of the ticks of these windows, which together are the run.
+    ensures windows { (words : List (List ℕ)) (plant : SourceUse) (at : IsAtWork words plant) → WritesRun at.command →
+        (k : ℕ) → k ≤ at.course.windows → written at.course k ≡ header ++
         rows_of (labels_of at.parts) (streams_of_run at.parts) 0 (min (k * at.parts.window) at.parts.ticks) }
-    ensures run { (words : List (List ℕ)) (plant : SourceUse) (at : IsAtWork words plant) → at.command ≡ Command.Run →
+    ensures run { (words : List (List ℕ)) (plant : SourceUse) (at : IsAtWork words plant) → WritesRun at.command →
         at.course.stop ≡ None → text_of at.course ≡ header ++ all_rows at.parts }
+
+    // A stop is the first band of the window after them that is wider than was asked.
+    ensures wide { (words : List (List ℕ)) (plant : SourceUse) (at : IsAtWork words plant) (stop : Stop) →
+        at.course.stop ≡ Some stop →
+        (place : TooWide) × (stop ≡ stop_by at.command (wide_fault at.parts place))
+        × IsFirstWide at.parts (streams_of_run at.parts) (first_tick at.parts at.course.windows)
+        (ticks_in at.parts at.course.windows) place }
     ensures check { (words : List (List ℕ)) (plant : SourceUse) (at : IsAtWork words plant) → at.command ≡ Command.Check →
         text_of at.course ≡ rank_header ++ rank_rows at.parts }
 
@@ -77,6 +87,18 @@ pub fn printed_bands_hold_trajectories()
     trajectories_exist();
 }
 
+/// `direct` prints what `run` prints on each plant, and stops where it does, with the same fault and status.
+pub fn direct_prints_the_run()
+    ensures windows { (parts : FileParts) (a b : Course) → IsWork Command.Run parts a → IsWork Command.Direct parts b →
+        a.windows ≡ b.windows }
+    ensures text { (parts : FileParts) (a b : Course) → IsWork Command.Run parts a → IsWork Command.Direct parts b →
+        (k : ℕ) → k ≤ a.windows → written a k ≡ written b k }
+    ensures stop { (parts : FileParts) (a b : Course) → IsWork Command.Run parts a → IsWork Command.Direct parts b →
+        a.stop ≡ b.stop }
+{
+    first_wide_places_are_one();
+}
+
 /// Each text has one judgement, and each command one end on it.
 pub fn texts_are_judged_once()
     ensures judged { (text : List ℕ) → (judgement : Judgement) × IsJudged text judgement }
@@ -87,6 +109,8 @@ pub fn texts_are_judged_once()
 {
     read_parts_are_in_range();
     verdicts_exist();
+    first_wide_places_are_one();
+    wide_places_are_found();
 }
 
 /// Each command has a course on each plant, and its courses on one plant write the same and stop alike.
@@ -101,23 +125,28 @@ pub fn commands_have_one_course()
         IsWork command parts b → a.trace ≡ b.trace }
     ensures stop { (command : Command) (parts : FileParts) (a b : Course) → IsWork command parts a →
         IsWork command parts b → a.stop ≡ b.stop }
-{}
+{
+    first_wide_places_are_one();
+    wide_places_are_found();
+}
 
 /// A legal trace of a run leads from the opening tubes to what is printed: whatever steps it lists for a window, the last versions
 /// that they leave are the bands of the interval run at the window's ticks, and in a legal text each window has such steps. `run`
-/// writes a trace, and `check` none.
+/// writes a trace, and `direct` and `check` none.
 pub fn traces_lead_to_the_run()
     ensures run { (words : List (List ℕ)) (plant : SourceUse) (at : IsAtWork words plant) → at.command ≡ Command.Run →
-        at.course.stop ≡ None → at.course.trace ≡ Some (traced_in at.parts) }
+        at.course.trace ≡ Some (traced_in at.parts) }
+    ensures direct { (words : List (List ℕ)) (plant : SourceUse) (at : IsAtWork words plant) → at.command ≡ Command.Direct →
+        at.course.trace ≡ None }
     ensures check { (words : List (List ℕ)) (plant : SourceUse) (at : IsAtWork words plant) → at.command ≡ Command.Check →
         at.course.trace ≡ None }
     ensures leads { (words : List (List ℕ)) (plant : SourceUse) (at : IsAtWork words plant) → at.command ≡ Command.Run →
-        at.course.stop ≡ None → (w s : ℕ) → w < at.course.windows → s < length (streams_of at.parts) →
+        (w s : ℕ) → w < at.course.windows → s < length (streams_of at.parts) →
         (rows : List RowOf) → Settles ((traced_in at.parts).window w) rows →
         last_of (reached ((traced_in at.parts).window w) (map step_in rows)) s
         ≡ tube_of (λ t. streams_of_run at.parts (first_tick at.parts w + t) s) (ticks_in at.parts w) }
     ensures listed { (words : List (List ℕ)) (plant : SourceUse) (at : IsAtWork words plant) → at.command ≡ Command.Run →
-        at.course.stop ≡ None → (k w s : ℕ) (text : List ℕ) → k ≤ at.course.windows → w < k →
+        (k w s : ℕ) (text : List ℕ) → k ≤ at.course.windows → w < k →
         s < length (streams_of at.parts) → IsTrace (names_of at.parts) (traced_in at.parts).window k text →
         (before : List ℕ) × (rows : List RowOf) × (after : List ℕ)
         × (text ≡ before ++ (trace_rows (names_of at.parts) w rows ++ after))

@@ -2,21 +2,22 @@
 #![tactic(auto)]
 
 mod check;
+mod commands;
 mod fault;
 mod laws;
 mod named_files;
 mod pieces;
 mod plant_text;
-mod run;
 mod saying;
 mod stops;
 mod top;
+mod windows;
 mod words;
 
 pub use fault::Stop;
 pub use laws::{
-    commands_have_one_course, courses_print_the_run, printed_bands_hold_trajectories,
-    texts_are_judged_once, traces_lead_to_the_run, worked_bands,
+    commands_have_one_course, courses_print_the_run, direct_prints_the_run,
+    printed_bands_hold_trajectories, texts_are_judged_once, traces_lead_to_the_run, worked_bands,
 };
 pub use named_files::files;
 pub use report::{TopFault, memory_line};

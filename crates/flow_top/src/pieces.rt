@@ -1,6 +1,7 @@
 //! Pieces of a command's output and trace.
 
 ghost use Rattle.std.specs.Prelude.{◌≤◌};
+ghost use Rattle.std.specs.Option.{option_map};
 ghost use Rattle.flow_top.specs.Steps.{PieceEnded, PairEnded, AreCounted};
 ghost use Rattle.flow_top.specs.Uses.{sink_use, sinks_use};
 
@@ -27,18 +28,22 @@ pub fn write_piece<O: Sink>(
     }
 }
 
-/// Writes rows to the output, and then the rows of their steps to the trace.
+/// Writes rows to the output and then, where there are rows of their steps, these to the trace.
 pub fn write_pair<O: Sink, T: Sink>(
     command: Command,
     rows: &[u8],
-    steps: &[u8],
+    steps: Option<&[u8]>,
     out: &mut O,
     trace: &mut T,
 ) -> Result<(), End>
     ensures ended { PairEnded command
-        (sinks_use O.given O.faults out.old out.new T.given T.faults trace.old trace.new) rows.now steps.now result }
+        (sinks_use O.given O.faults out.old out.new T.given T.faults trace.old trace.new) rows.now
+        (option_map (λ text. text.now) steps.entry) result }
     ensures counted { AreCounted (sinks_use O.given O.faults out.old out.new T.given T.faults trace.old trace.new) }
 {
     write_piece(command, TopFault::WriteOut, rows, out)?;
-    write_piece(command, TopFault::WriteTrace, steps, trace)
+    match steps {
+        Some(text) => write_piece(command, TopFault::WriteTrace, text, trace),
+        None => Ok(()),
+    }
 }

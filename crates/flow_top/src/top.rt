@@ -1,19 +1,21 @@
 ghost use Rattle.std.specs.Prelude.{◌≡◌, ◌⊎◌, ℕ, List, Some, None, Ok, Err};
 ghost use Rattle.flow_edge.specs.Faults.{Rose};
-ghost use Rattle.plant.specs.Sound.{IsPlant};
 ghost use Rattle.flow_top.specs.declared.words.Command.{Command};
 ghost use Rattle.flow_top.specs.declared.fault.Stop.{Stop};
 ghost use Rattle.flow_top.specs.Words.{command_in};
 ghost use Rattle.flow_top.specs.Ended.{Ended, CommandEnded, WorkEnded};
-ghost use Rattle.flow_top.specs.Causes.{WroteAll, SaysStop, SaysWords, SaysReadFault, SaysWriteFault, SaysNothing, SaysMemory};
-ghost use Rattle.flow_top.specs.Causes.{IsEndOn, AnswersOr, AnswersUnlessRead};
+ghost use Rattle.flow_top.specs.Causes.{WroteAll, SaysRefusal, SaysStop, SaysWords, SaysReadFault, SaysWriteFault, SaysNothing, SaysMemory};
+ghost use Rattle.flow_top.specs.Causes.{IsEndOn, AnswersOr, AnswersUnlessRead, AnswersUnlessFailed};
+ghost use Rattle.flow_top.specs.Faults.{status_of};
+ghost use Rattle.flow_top.specs.Judged.{IsJudged};
+ghost use Rattle.report.specs.declared.fault.TopFault.{TopFault};
 ghost use Rattle.flow_top.specs.Uses.{source_use, sink_use, sinks_use, IsUnwritten};
 ghost use Rattle.flow_top.specs.Stands.{Stands};
 
 use crate::check::write_ranks;
+use crate::commands::{write_direct, write_run};
 use crate::fault::{End, Stop};
 use crate::plant_text::plant_from;
-use crate::run::write_run;
 use crate::saying::say;
 use crate::words::{Command, request_in};
 use flow_edge::{Gate, Sink, Source, Status, Word};
@@ -21,11 +23,12 @@ use plant::Plant;
 use report::TopFault;
 use std::alloc::Global;
 use std::thread::Threads;
+use window_accept::first_wide_places_are_one;
 
 /// Does a command. `plant` holds the plant text and `out` is given the output; what goes wrong is said to `err` in one
-/// line. `run` gives the interval run of the plant, at this stage where it runs in one window and asks for no widths, by relaxing
-/// it, and gives `trace` the steps that narrowed; `check` gives its units with their kinds and ranks. `rt`, `extra` and `gate`
-/// are not used yet.
+/// line. `run` gives the interval run of the plant, up to the first window in which a band is wider than the plant asks, by
+/// relaxing each window, and gives `trace` the steps that narrowed; `direct` gives the same by stepping the plant; `check` gives its
+/// units with their kinds and ranks. `extra` and `gate` are not used yet.
 ///
 /// Every answer but want of memory has its cause: refused words, a plant text that is refused, or a device whose count
 /// of faults rose in this call. The clauses below say so status by status; all but the last follow from the last, `stands`.
@@ -61,17 +64,28 @@ where
     ensures words_only { (at : ℕ) → command_in words.now ≡ Err at →
         AnswersOr Status.Words (sink_use F.given F.faults err.old err.new) result }
 
-    // Refused and No: exactly where the command ends on the text of the plant source in a stop of this status, with its line
-    // and nothing in the output or the trace; but where the source failed, the line could not be written or memory ran out.
-    ensures refused { result ≡ Status.Refused → SaysStop Status.Refused words.now
+    // Refused and No: exactly where the text of the plant source is refused by a fault that the command gives this status, with its
+    // line and nothing in the output or the trace; but where the source failed, the line could not be written or memory ran out.
+    ensures refused { result ≡ Status.Refused → SaysRefusal Status.Refused words.now
         (source_use S.left S.faults plant.old plant.new) (sinks_use O.given O.faults out.old out.new T.given T.faults trace.old trace.new)
         (sink_use F.given F.faults err.old err.new) }
-    ensures no { result ≡ Status.No → SaysStop Status.No words.now
+    ensures no { result ≡ Status.No → SaysRefusal Status.No words.now
+        (source_use S.left S.faults plant.old plant.new) (sinks_use O.given O.faults out.old out.new T.given T.faults trace.old trace.new)
+        (sink_use F.given F.faults err.old err.new) }
+    ensures refused_only { (command : Command) (text : List ℕ) (fault : TopFault) → command_in words.now ≡ Ok command →
+        S.left plant.old ≡ Some text → IsJudged text (Err fault) →
+        AnswersUnlessRead (status_of command fault) (source_use S.left S.faults plant.old plant.new)
+        (sink_use F.given F.faults err.old err.new) result }
+
+    // Wide: exactly where the command's course on the plant has a stop, which is the first band that is wider than was asked, with
+    // its line, the output up to it and a legal trace of these windows; but where a device failed or memory ran out.
+    ensures wide { result ≡ Status.Wide → SaysStop Status.Wide words.now
         (source_use S.left S.faults plant.old plant.new) (sinks_use O.given O.faults out.old out.new T.given T.faults trace.old trace.new)
         (sink_use F.given F.faults err.old err.new) }
     ensures stopped_only { (command : Command) (text : List ℕ) (stop : Stop) → command_in words.now ≡ Ok command →
         S.left plant.old ≡ Some text → IsEndOn command text (Some stop) →
-        AnswersUnlessRead stop.status (source_use S.left S.faults plant.old plant.new)
+        AnswersUnlessFailed stop.status (source_use S.left S.faults plant.old plant.new)
+        (sinks_use O.given O.faults out.old out.new T.given T.faults trace.old trace.new)
         (sink_use F.given F.faults err.old err.new) result }
 
     // Read fault and write fault: only where a count of faults rose, and with their line but where the errors failed.
@@ -88,9 +102,6 @@ where
     ensures no_memory { result ≡ Status.NoMemory → SaysMemory words.now
         (source_use S.left S.faults plant.old plant.new) (sinks_use O.given O.faults out.old out.new T.given T.faults trace.old trace.new)
         (sink_use F.given F.faults err.old err.new) }
-
-    // The status of results that are too wide never comes.
-    ensures never { result ≡ Status.Wide → ⊥ }
 
     // A text on which the command ends with no stop is done where no device fails, unless memory ran out.
     ensures complete { (command : Command) (text : List ℕ) → command_in words.now ≡ Ok command →
@@ -109,12 +120,14 @@ where
         })
         result }
 {
-    let ended = work(alloc, words, plant, out, trace);
+    first_wide_places_are_one();
+    let ended = work(rt, alloc, words, plant, out, trace);
     say(alloc, &ended, err)
 }
 
 /// Reads the words, and does what they ask for.
-fn work<S: Source, O: Sink, T: Sink>(
+fn work<R: Threads + Sync, S: Source, O: Sink, T: Sink>(
+    rt: &R,
     alloc: Global,
     words: &[Word],
     source: &mut S,
@@ -127,7 +140,7 @@ fn work<S: Source, O: Sink, T: Sink>(
         result }
 {
     match request_in(words) {
-        Ok(request) => do_command(alloc, request.command, source, out, trace),
+        Ok(request) => do_command(rt, alloc, request.command, source, out, trace),
         Err(at) => Err(End::Stopped(Stop {
             fault: TopFault::Words { at },
             status: Status::Words,
@@ -136,7 +149,8 @@ fn work<S: Source, O: Sink, T: Sink>(
 }
 
 /// Reads the plant, and does the command on it.
-fn do_command<S: Source, O: Sink, T: Sink>(
+fn do_command<R: Threads + Sync, S: Source, O: Sink, T: Sink>(
+    rt: &R,
     alloc: Global,
     command: Command,
     source: &mut S,
@@ -149,25 +163,26 @@ fn do_command<S: Source, O: Sink, T: Sink>(
         result }
 {
     match plant_from(alloc, command, source) {
-        Ok(plant) => do_on_plant(alloc, command, &plant, out, trace),
+        Ok(plant) => do_on_plant(rt, alloc, command, plant, out, trace),
         Err(end) => Err(end),
     }
 }
 
 /// Does the command on a plant.
-fn do_on_plant<O: Sink, T: Sink>(
+fn do_on_plant<R: Threads + Sync, O: Sink, T: Sink>(
+    rt: &R,
     alloc: Global,
     command: Command,
-    plant: &Plant,
+    plant: Plant,
     out: &mut O,
     trace: &mut T,
 ) -> Result<(), End>
-    requires { IsPlant plant.now }
-    ensures { WorkEnded command plant.now
+    ensures { WorkEnded command plant
         (sinks_use O.given O.faults out.old out.new T.given T.faults trace.old trace.new) result }
 {
     match command {
-        Command::Run => write_run(alloc, plant, out, trace),
-        Command::Check => write_ranks(alloc, plant, out),
+        Command::Run => write_run(rt, alloc, plant, out, trace),
+        Command::Direct => write_direct(rt, alloc, plant, out, trace),
+        Command::Check => write_ranks(alloc, &plant, out),
     }
 }

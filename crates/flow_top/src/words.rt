@@ -9,6 +9,8 @@ use flow_edge::Word;
 pub enum Command {
     /// The interval run of a plant, by relaxing it window by window.
     Run,
+    /// The same, by stepping the whole plant tick by tick.
+    Direct,
     /// The units of a plant, with their ranks.
     Check,
 }
@@ -36,6 +38,9 @@ fn command_named(word: &[u8]) -> Option<Command>
 {
     if word == b"run".as_slice() {
         return Some(Command::Run);
+    }
+    if word == b"direct".as_slice() {
+        return Some(Command::Direct);
     }
     if word == b"check".as_slice() {
         return Some(Command::Check);
@@ -76,11 +81,11 @@ pub fn request_in(words: &[Word]) -> Result<Request, u32>
         [word, rest @ ..] => match command_named(word.as_bytes()) {
             None => Err(1),
             Some(Command::Run) => run_options(rest),
-            Some(Command::Check) if rest.is_empty() => Ok(Request {
-                command: Command::Check,
+            Some(command) if rest.is_empty() => Ok(Request {
+                command,
                 journal: None,
             }),
-            Some(Command::Check) => Err(2),
+            Some(_) => Err(2),
         },
     }
 }

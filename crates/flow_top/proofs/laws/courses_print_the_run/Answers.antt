@@ -2,17 +2,19 @@ use Rattle.std.proofs.Common.{subst}
 use Rattle.flow_top.specs.declared.words.Command.{Command}
 use Rattle.flow_top.specs.Courses.{IsCourse}
 use Rattle.flow_top.proofs.Channels.{run-channels}
-use Rattle.flow_top.proofs.Courses.{check-printed}
-use Rattle.flow_top.proofs.RunRows.{run-windows, run-printed}
+use Rattle.flow_top.proofs.Courses.{check-printed, course-stops}
+use Rattle.flow_top.proofs.RunRows.{work-windows, work-text}
 use Rattle.flow_top.proofs.laws.courses_print_the_run.Goals as goal
 
 pub returns-clause-windows : goal.returns-clause-windows
-returns-clause-windows c words plant at run whole k h =
-    run-windows at.parts at.course (subst (λ (k : Command). IsCourse k at.parts at.course) run at.work.follows) whole k h
+returns-clause-windows c words plant at writes k h = work-windows at.command at.parts at.course writes at.work.follows k h
 
 pub returns-clause-run : goal.returns-clause-run
-returns-clause-run c words plant at run whole =
-    run-printed at.parts at.course (subst (λ (k : Command). IsCourse k at.parts at.course) run at.work.follows) whole
+returns-clause-run c words plant at writes whole = work-text at.command at.parts at.course writes at.work.follows whole
+
+pub returns-clause-wide : goal.returns-clause-wide
+returns-clause-wide c words plant at stop e =
+    let stops = course-stops at.command at.parts at.course stop at.work.follows e in (stops.place, stops.stop_is, stops.first)
 
 pub returns-clause-check : goal.returns-clause-check
 returns-clause-check c words plant at check =

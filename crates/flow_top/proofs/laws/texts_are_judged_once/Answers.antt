@@ -6,7 +6,7 @@ pub returns-clause-judged_once : goal.returns-clause-judged_once
 returns-clause-judged_once c = judgement-unique
 
 pub returns-clause-ends_once : goal.returns-clause-ends_once
-returns-clause-ends_once c = end-unique
+returns-clause-ends_once c = end-unique c.first_wide_places_are_one.ensures
 
 pub returns-clause-judged : goal.returns-clause-judged
 returns-clause-judged c = judgement-exists c.verdicts_exist.ensures c.read_parts_are_in_range.ensures
@@ -14,4 +14,4 @@ returns-clause-judged c = judgement-exists c.verdicts_exist.ensures c.read_parts
 pub returns-clause-ends : goal.returns-clause-ends
 returns-clause-ends c command text =
     let judged = judgement-exists c.verdicts_exist.ensures c.read_parts_are_in_range.ensures text in
-    end-exists command text judged.0 judged.1
+    end-exists c.wide_places_are_found.ensures command text judged.0 judged.1

@@ -1,20 +1,21 @@
-use Rattle.std.proofs.Common.{arith, ◌∙◌, ◌<◌, ℕ, map, sym, subst}
+use Rattle.std.proofs.Common.{arith, ◌∙◌, ◌<◌, ℕ, map, sym, subst, Some}
 use Rattle.plant.proofs.Lookups.{streams-counted}
 use Rattle.renewal.specs.Plan.{window_of}
 use Rattle.relax_core.specs.Board.{step_in}
 use Rattle.feeds.specs.Given.{run_plan}
 use Rattle.flow_top.specs.declared.words.Command.{Command}
+use Rattle.flow_top.specs.declared.words.Command.TheVariants.{Run}
 use Rattle.flow_top.specs.Courses.{IsCourse}
 use Rattle.report.specs.Trace.{names_of}
-use Rattle.flow_top.specs.RunCourse.{first_tick, ticks_in, traced_in}
+use Rattle.flow_top.specs.WindowsCourse.{first_tick, ticks_in, traced_in}
 use Rattle.flow_top.proofs.RunRows.{window-inside}
 use Rattle.flow_top.proofs.laws.traces_lead_to_the_run.Goals as goal
 
 pub returns-clause-leads : goal.returns-clause-leads
-returns-clause-leads c words plant at run whole w s l m rows settles =
+returns-clause-leads c words plant at run w s l m rows settles =
     let parts = at.parts in
     let follows = subst (λ (k : Command). IsCourse k parts at.course) run at.work.follows in
-    let inside = window-inside parts at.course at.work.plant follows whole w l in
+    let inside = window-inside Run (Some (traced_in parts)) parts at.course at.work.plant follows w l in
     let first = first_tick parts w in
     let n = ticks_in parts w in
     let laws = c.windows_cut_the_run.ensures in
@@ -25,7 +26,7 @@ returns-clause-leads c words plant at run whole w s l m rows settles =
     ∙ laws.run parts first n s at.work.plant inside.0 inside.1 inside.2 m
 
 pub returns-clause-listed : goal.returns-clause-listed
-returns-clause-listed c words plant at run whole k w s text few l m legal =
+returns-clause-listed c words plant at run k w s text few l m legal =
     let parts = at.parts in
     let traced = traced_in parts in
     let stands = c.traces_settle_their_windows.ensures (names_of parts) traced.window k text legal w l in (
@@ -33,5 +34,5 @@ returns-clause-listed c words plant at run whole k w s text few l m legal =
       stands.1,
       stands.2,
       stands.4,
-      returns-clause-leads c words plant at run whole w s (omega (arith, l, few)) m stands.1 stands.3,
+      returns-clause-leads c words plant at run w s (omega (arith, l, few)) m stands.1 stands.3,
     )

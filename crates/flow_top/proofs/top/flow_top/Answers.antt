@@ -1,5 +1,5 @@
 use Rattle.flow_edge.specs.declared.status.Status.TheVariants as status
-use Rattle.flow_top.proofs.Causes.{caused, words-only, stopped-only, complete}
+use Rattle.flow_top.proofs.Causes.{caused, words-only, refused-only, stopped-only, complete}
 use Rattle.flow_top.proofs.top.flow_top.Goals as goal
 
 pub returns-clause-done : goal.returns-clause-done
@@ -26,16 +26,21 @@ returns-clause-write_fault g c d = caused _ _ _ _ _ status.WriteFault c.work-end
 pub returns-clause-no_memory : goal.returns-clause-no_memory
 returns-clause-no_memory g c d = caused _ _ _ _ _ status.NoMemory c.work-ended.result c.work-ended.ensures c.say.ensures d
 
-pub returns-clause-never : goal.returns-clause-never
-returns-clause-never g c d = caused _ _ _ _ _ status.Wide c.work-ended.result c.work-ended.ensures c.say.ensures d
+pub returns-clause-wide : goal.returns-clause-wide
+returns-clause-wide g c d = caused _ _ _ _ _ status.Wide c.work-ended.result c.work-ended.ensures c.say.ensures d
 
 pub returns-clause-words_only : goal.returns-clause-words_only
 returns-clause-words_only g c at d = words-only _ _ _ _ _ at c.work-ended.result c.work-ended.ensures c.say.ensures d
 
+pub returns-clause-refused_only : goal.returns-clause-refused_only
+returns-clause-refused_only g c command text fault a t judged =
+    refused-only _ _ _ _ _ c.first_wide_places_are_one.ensures command text fault c.work-ended.result c.work-ended.ensures
+    c.say.ensures a t judged
+
 pub returns-clause-stopped_only : goal.returns-clause-stopped_only
 returns-clause-stopped_only g c command text stop a t ends =
-    stopped-only _ _ _ _ _ command text stop c.work-ended.result c.work-ended.ensures c.say.ensures a t ends
+    stopped-only _ _ _ _ _ c.first_wide_places_are_one.ensures command text stop c.work-ended.result c.work-ended.ensures c.say.ensures a t ends
 
 pub returns-clause-complete : goal.returns-clause-complete
 returns-clause-complete g c command text a t ends p o r =
-    complete _ _ _ _ _ command text c.work-ended.result c.work-ended.ensures c.say.ensures a t ends p o r
+    complete _ _ _ _ _ c.first_wide_places_are_one.ensures command text c.work-ended.result c.work-ended.ensures c.say.ensures a t ends p o r

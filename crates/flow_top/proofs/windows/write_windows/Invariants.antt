@@ -1,0 +1,10 @@
+use Rattle.flow_top.specs.Uses.{sinks_use}
+use Rattle.flow_top.proofs.Written.{IsWriting}
+use Rattle.flow_top.proofs.windows.write_windows.Given as goal
+
+-- the windows before this one were written
+abbrev pub invariant-loop-index : goal.invariant-loop-index
+invariant-loop-index g l =
+    IsWriting l.fn.command g.W.Windows.relaxes (g.W.Windows.session l.fn.windows).parts l.count l.index
+    (g.W.Windows.session l.windows) l.feeds
+    (sinks_use g.O.Sink.given g.O.Sink.faults l.fn.out l.out g.T.Sink.given g.T.Sink.faults l.fn.trace l.trace)

@@ -1,0 +1,193 @@
+//! The windows of a plant, written one after another.
+
+ghost use Rattle.std.specs.Prelude.{◌≡◌, ◌⊎◌, ◌<◌, ◌≤◌, None, IfOk, length, slice_index_or};
+ghost use Rattle.std.specs.Option.{option_map};
+ghost use Rattle.plant_streams.specs.Streams.{streams_of};
+ghost use Rattle.tables.specs.Output.{channels};
+ghost use Rattle.feeds.specs.Given.{run_plan};
+ghost use Rattle.window_accept.specs.Wide.{is_signal};
+ghost use Rattle.feeds.specs.Reader.{new_reader};
+ghost use Rattle.window_accept.specs.Session.{opening_session, IsMadeBy, HasRunAt};
+ghost use Rattle.flow_top.specs.declared.fault.End.TheVariants.{Stopped, NoMemory};
+ghost use Rattle.flow_top.specs.Faults.{stop_by};
+ghost use Rattle.flow_top.specs.Ended.{WorkEnded};
+ghost use Rattle.flow_top.specs.WindowsCourse.{first_tick, ticks_in, wide_fault, IsWindowCount};
+ghost use Rattle.flow_top.specs.Steps.{traces, header_of_steps, WritesBy, AreTexts, IsAlong, TextsEnded, PairEnded, AreCounted};
+ghost use Rattle.flow_top.specs.Uses.{sinks_use};
+
+use crate::fault::End;
+use crate::pieces::write_pair;
+use crate::stops::stop_by;
+use crate::words::Command;
+use feeds::FeedReader;
+use flow_edge::{NoSource, Sink};
+use parts::Parts;
+use plant::Plant;
+use plant_names::Text;
+use relax_core::Window;
+use report::{TopFault, channel_names, output_header, trace_header, trace_rows, tube_rows};
+use std::alloc::{AllocError, Global};
+use std::thread::Threads;
+use window_accept::{
+    TooWide, WindowEnd, Windows, first_wide_places_are_one, sessions_follow_the_run,
+    wide_places_are_found,
+};
+
+/// The texts of a window: for the output and, where it was relaxed, for the trace.
+#[derive(Drop)]
+pub(crate) struct Texts {
+    rows: Text,
+    steps: Option<Text>,
+}
+
+/// Whether a command writes a trace.
+fn traces(command: Command) -> bool
+    ensures { result ≡ traces command }
+{
+    match command {
+        Command::Run => true,
+        Command::Direct | Command::Check => false,
+    }
+}
+
+/// The header of the trace, where the command writes one.
+fn header_of_steps(command: Command) -> Option<&'static [u8]>
+    ensures { option_map (λ text. text.now) result ≡ header_of_steps command }
+{
+    match command {
+        Command::Run => Some(trace_header()),
+        Command::Direct | Command::Check => None,
+    }
+}
+
+/// The least number of windows that have all ticks.
+fn window_count(parts: &Parts) -> u32
+    ensures { IsWindowCount parts.now result }
+{
+    parts.ticks.div_ceil(parts.window)
+}
+
+/// The texts of the window of a plant with this number.
+fn window_texts(
+    alloc: Global,
+    relaxed: bool,
+    plant: &Plant,
+    index: u32,
+    window: &Window,
+) -> Result<Texts, AllocError>
+    requires run { HasRunAt plant.now (first_tick plant.now index) (ticks_in plant.now index) window.now }
+    requires made { IsMadeBy relaxed (run_plan plant.now (first_tick plant.now index) (ticks_in plant.now index)) window.now }
+    ensures { IfOk result (λ texts. AreTexts relaxed plant.now index texts.rows texts.steps) }
+{
+    let rows = tube_rows(alloc, plant, window)?;
+    let steps = if relaxed {
+        Some(trace_rows(alloc, plant, index, window)?)
+    } else {
+        None
+    };
+    Ok(Texts { rows, steps })
+}
+
+/// The fault of a band that is wider than was asked, with the names of its stream and channel.
+fn wide_fault(alloc: Global, plant: &Plant, wide: TooWide) -> Result<TopFault, AllocError>
+    requires stream { wide.stream < length (streams_of plant.now) }
+    requires channel { wide.channel < length (channels (is_signal plant.now wide.stream)) }
+    ensures { IfOk result (λ fault. fault ≡ wide_fault plant.now wide) }
+{
+    let stream = &plant.streams()[wide.stream as usize];
+    let channel = channel_names(stream.signal)[wide.channel as usize];
+    Ok(TopFault::Wide {
+        stream: Text::new(Vec::from_slice(alloc, stream.name.as_bytes())?),
+        channel: Text::new(Vec::from_slice(alloc, channel)?),
+        tick: wide.tick,
+        width: wide.width,
+        limit: wide.limit,
+    })
+}
+
+/// The end of a command with a band that is wider than was asked.
+fn end_by_width(alloc: Global, command: Command, plant: &Plant, wide: TooWide) -> End
+    requires stream { wide.stream < length (streams_of plant.now) }
+    requires channel { wide.channel < length (channels (is_signal plant.now wide.stream)) }
+    ensures { (result ≡ Stopped (stop_by command (wide_fault plant.now wide))) ⊎ (result ≡ NoMemory) }
+{
+    match wide_fault(alloc, plant, wide) {
+        Ok(fault) => End::Stopped(stop_by(command, fault)),
+        Err(_) => End::NoMemory,
+    }
+}
+
+/// The texts of the next window, or why the command ends.
+fn next_texts<R: Threads + Sync, W: Windows>(
+    rt: &R,
+    alloc: Global,
+    command: Command,
+    index: u32,
+    windows: &mut W,
+    feeds: &mut FeedReader,
+) -> Result<Texts, End>
+    requires writes { WritesBy command W.relaxes }
+    requires along { IsAlong index (W.session windows.old) feeds.old }
+    requires more { first_tick (W.session windows.old).parts index < (W.session windows.old).parts.ticks }
+    ensures { TextsEnded command W.relaxes (W.session windows.old).parts index (W.session windows.new) feeds.new result }
+{
+    sessions_follow_the_run();
+    let relaxed = traces(command);
+    match windows.next_window(rt, alloc, feeds, &mut NoSource) {
+        Ok(window) => Ok(window_texts(alloc, relaxed, windows.plant(), index, &window)?),
+        Err(WindowEnd::Wide { place }) => Err(end_by_width(alloc, command, windows.plant(), place)),
+        Err(WindowEnd::NoMemory) => Err(End::NoMemory),
+        Err(WindowEnd::Finished) => unreachable!(),
+        Err(WindowEnd::Feed { .. }) => unreachable!(),
+    }
+}
+
+/// Writes the texts of a window to the output and the trace.
+fn write_texts<O: Sink, T: Sink>(
+    command: Command,
+    texts: &Texts,
+    out: &mut O,
+    trace: &mut T,
+) -> Result<(), End>
+    ensures ended { PairEnded command
+        (sinks_use O.given O.faults out.old out.new T.given T.faults trace.old trace.new)
+        texts.now.rows texts.now.steps result }
+    ensures counted { AreCounted (sinks_use O.given O.faults out.old out.new T.given T.faults trace.old trace.new) }
+{
+    let steps = texts.steps.as_ref().map(Text::as_bytes);
+    write_pair(command, texts.rows.as_bytes(), steps, out, trace)
+}
+
+/// Writes the headers of output and trace, and then the rows of each window and those of its steps.
+pub fn write_windows<R: Threads + Sync, W: Windows, O: Sink, T: Sink>(
+    rt: &R,
+    alloc: Global,
+    command: Command,
+    windows: &mut W,
+    feeds: &mut FeedReader,
+    out: &mut O,
+    trace: &mut T,
+) -> Result<(), End>
+    requires writes { WritesBy command W.relaxes }
+    requires opening { (W.session windows.old) ≡ opening_session (W.session windows.old).parts }
+    requires reader { feeds.old ≡ new_reader }
+    ensures { WorkEnded command (W.session windows.old).parts
+        (sinks_use O.given O.faults out.old out.new T.given T.faults trace.old trace.new) result }
+{
+    sessions_follow_the_run();
+    first_wide_places_are_one();
+    wide_places_are_found();
+    let count = window_count(windows.plant().parts());
+    write_pair(
+        command,
+        output_header(),
+        header_of_steps(command),
+        out,
+        trace,
+    )?;
+    for index in 0..count {
+        let texts = next_texts(rt, alloc, command, index, windows, feeds)?;
+        write_texts(command, &texts, out, trace)?;
+    }
+    Ok(())
+}
