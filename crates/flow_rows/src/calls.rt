@@ -16,6 +16,7 @@ mod devices;
 mod kinds;
 mod refusals;
 mod texts;
+mod windows;
 
 /// One call: what it is handed, and what has to come of it.
 #[derive(Clone, Copy)]
@@ -169,22 +170,45 @@ fn ends_calls_of_all_kinds_as_it_should(rt: HostRuntime) -> Result<(), Fail> {
     try_cases(&rt, rt.alloc(), &kinds::CASES)
 }
 
-/// As many ticks of every kind of unit as fit into one window.
-const LONGEST: Plant = Plant::Text(
-    MIXED,
-    &[("ticks = 120\nwindow = 16", "ticks = 64\nwindow = 64")],
-);
+#[test]
+fn makes_windows_as_it_should(rt: HostRuntime) -> Result<(), Fail> {
+    try_cases(&rt, rt.alloc(), &windows::CASES)
+}
 
+/// The output of a command on a plant, which it runs to its end.
+fn output_on<R>(rt: &R, alloc: Global, words: &[&str], plant: Plant) -> Result<Vec<u8>, Fail>
+where
+    R: Abort + Threads + Sync,
+{
+    let mut source = MemSource::new(bytes_of(alloc, plant)?, Vec::new(alloc));
+    let answer = call(rt, alloc, words, &mut source, OPEN)?;
+    assert_eq!(rt; answer.status, Status::Done);
+    Ok(answer.out)
+}
+
+fn line_count(text: &[u8]) -> usize {
+    text.iter().filter(|&&byte| byte == b'\n').count()
+}
+
+/// 120 ticks in windows of 16, the last of 8.
 #[test]
 fn runs_every_kind(rt: HostRuntime) -> Result<(), Fail> {
     let alloc = rt.alloc();
-    let mut plant = MemSource::new(bytes_of(alloc, LONGEST)?, Vec::new(alloc));
-    let answer = call(&rt, alloc, &["run"], &mut plant, OPEN)?;
-    assert_eq!(rt; answer.status, Status::Done);
+    let mixed = Plant::Text(MIXED, &[]);
+    let out = output_on(&rt, alloc, &["run"], mixed)?;
     let first = output_of(alloc, FIRST_TICKS)?;
-    assert!(rt; answer.out.starts_with(first.as_bytes()));
-    let lines = answer.out.iter().filter(|&&byte| byte == b'\n').count();
-    assert_eq!(rt; lines, 1 + 64 * 29);
+    assert!(rt; out.starts_with(first.as_bytes()));
+    assert_eq!(rt; line_count(&out), 1 + 120 * 29);
+    let stepped = output_on(&rt, alloc, &["direct"], mixed)?;
+    assert!(rt; stepped == out);
+    Ok(())
+}
+
+#[test]
+fn last_window_has_what_is_left(rt: HostRuntime) -> Result<(), Fail> {
+    let changes = &[("ticks = 3", "ticks = 65"), ("window = 3", "window = 64")];
+    let out = output_on(&rt, rt.alloc(), &["run"], Plant::With(changes))?;
+    assert_eq!(rt; line_count(&out), 1 + 65 * 8);
     Ok(())
 }
 

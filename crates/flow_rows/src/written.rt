@@ -18,8 +18,9 @@ pub enum Written {
     /// Whatever begins or ends with this.
     Starts(&'static str),
     Ends(&'static str),
-    /// The header of a trace, and then the steps of window 0 with these streams, versions and inputs, in either order.
-    Steps([&'static str; 2]),
+    /// The header of a trace, and then for each of so many windows two steps with these streams, versions and inputs, in one order
+    /// or in the other.
+    Steps(u32, [&'static str; 2]),
 }
 
 fn push_row(
@@ -60,11 +61,27 @@ pub fn output_of(alloc: Global, ticks: &[&str]) -> Result<String, Fail> {
     Ok(text)
 }
 
-/// Whether it is a trace of these two steps, in either order.
-fn are_steps(alloc: Global, [one, other]: [&str; 2], found: &[u8]) -> Result<bool, Fail> {
-    let text = format!(in alloc; "{TRACE_HEADER}0,0,{one}\n0,1,{other}\n")?;
-    let turned = format!(in alloc; "{TRACE_HEADER}0,0,{other}\n0,1,{one}\n")?;
-    Ok(found == text.as_bytes() || found == turned.as_bytes())
+/// The header of a trace, and these two steps in each of the first windows.
+fn trace_of(alloc: Global, windows: u32, one: &str, other: &str) -> Result<String, Fail> {
+    let mut text = String::from_str(alloc, TRACE_HEADER)?;
+    for window in 0..windows {
+        let steps = format!(in alloc; "{window},0,{one}\n{window},1,{other}\n")?;
+        text.push_str(&steps)?;
+    }
+    Ok(text)
+}
+
+/// Whether it is a trace of these two steps in each window, in one order or in the other.
+fn are_steps(
+    alloc: Global,
+    windows: u32,
+    [one, other]: [&str; 2],
+    found: &[u8],
+) -> Result<bool, Fail> {
+    Ok(
+        found == trace_of(alloc, windows, one, other)?.as_bytes()
+            || found == trace_of(alloc, windows, other, one)?.as_bytes(),
+    )
 }
 
 /// Whether it is what has to be written.
@@ -74,6 +91,6 @@ pub fn is_written(alloc: Global, written: Written, found: &[u8]) -> Result<bool,
         Written::Ticks(ticks) => found == output_of(alloc, ticks)?.as_bytes(),
         Written::Starts(start) => found.starts_with(start.as_bytes()),
         Written::Ends(end) => found.ends_with(end.as_bytes()),
-        Written::Steps(steps) => are_steps(alloc, steps, found)?,
+        Written::Steps(windows, steps) => are_steps(alloc, windows, steps, found)?,
     })
 }

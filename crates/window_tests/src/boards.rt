@@ -1,19 +1,19 @@
 //! Boards of the worked tank: its outflow is stream 2 and its level stream 3, behind the feeds.
 
 use crate::renewals::{LEVEL, OUTFLOW, WORKED_TANK, has_rows};
-use crate::windows::window_in;
-use plant_texts::{LOW_FLOW, plant_with};
+use crate::windows::{plant_with_units, window_in};
+use plant::Plant;
 use relax_core::{Board, StepFault, Stepped, inputs_for};
 use std::alloc::Global;
+use std::process::Abort;
 use std::test::Fail;
-use text_plants::plant_in;
 
-/// What a step answers, where the stream is there and there is a number for each of the streams that it reads.
+/// What a step answers, where the stream is there and is given by a unit of two inputs.
 fn stepped(
     alloc: Global,
     board: &mut Board<'_>,
     stream: u32,
-    versions: &[u32],
+    versions: [u32; 2],
 ) -> Option<Result<Stepped, StepFault>> {
     let plan = board.plan();
     if plan.plant().streams().len() <= stream as usize {
@@ -23,51 +23,80 @@ fn stepped(
     if reads.len() != versions.len() {
         return None;
     }
-    Some(board.step(alloc, stream, versions))
+    Some(board.step(alloc, stream, &versions))
 }
 
-#[test]
-fn steps_narrow_or_change_nothing(rt: HostRuntime) -> Result<(), Fail> {
-    let text = plant_with(rt.alloc(), &[WORKED_TANK], &[LOW_FLOW])?;
-    let plant = plant_in(rt.alloc(), &text)?;
-    let plan = window_in(rt.alloc(), &plant, 3)?;
-    let mut board = Board::open(rt.alloc(), &plan)?;
-    let missing = StepFault::NoSuchVersion {
-        input: 1,
-        wanted: 1,
-        have: 1,
-    };
-    let cases = [
-        (2, [0, 1], Some(Err(missing))),
-        (2, [0, 0], Some(Ok(Stepped::Narrowed { number: 1 }))),
-        (2, [0, 0], Some(Ok(Stepped::Same))),
-        (3, [0, 0], Some(Ok(Stepped::Narrowed { number: 1 }))),
-        (0, [0, 0], None),
-    ];
-    for (stream, versions, answer) in cases {
-        assert!(rt; stepped(rt.alloc(), &mut board, stream, &versions) == answer);
+/// A step on the board, the versions that it reads, and what it answers.
+type Case = (u32, [u32; 2], Option<Result<Stepped, StepFault>>);
+
+/// The answers to steps whose second input has the opening tube alone.
+const MISSES_1: Option<Result<Stepped, StepFault>> = Some(Err(StepFault::NoSuchVersion {
+    input: 1,
+    wanted: 1,
+    have: 1,
+}));
+
+const MISSES_7: Option<Result<Stepped, StepFault>> = Some(Err(StepFault::NoSuchVersion {
+    input: 1,
+    wanted: 7,
+    have: 1,
+}));
+
+const NARROWED: Option<Result<Stepped, StepFault>> = Some(Ok(Stepped::Narrowed { number: 1 }));
+
+/// Steps in their turn: a feed has none.
+const CASES: [Case; 7] = [
+    (2, [0, 1], MISSES_1),
+    (2, [0, 0], NARROWED),
+    (2, [0, 0], Some(Ok(Stepped::Same))),
+    (2, [0, 7], MISSES_7),
+    (3, [0, 0], NARROWED),
+    (3, [0, 0], Some(Ok(Stepped::Same))),
+    (0, [0, 0], None),
+];
+
+/// Makes the steps on the board of a plant's first two ticks.
+fn try_steps<R: Abort>(rt: &R, alloc: Global, plant: &Plant) -> Result<(), Fail> {
+    let plan = window_in(alloc, plant, 2)?;
+    let mut board = Board::open(alloc, &plan)?;
+    for (stream, versions, answer) in CASES {
+        assert!(rt; stepped(alloc, &mut board, stream, versions) == answer);
     }
     assert_eq!(rt; board.rows().len(), 2);
     Ok(())
 }
 
 #[test]
-fn worked_tank_settles_in_two_steps(rt: HostRuntime) -> Result<(), Fail> {
-    let text = plant_with(rt.alloc(), &[WORKED_TANK], &[LOW_FLOW])?;
-    let plant = plant_in(rt.alloc(), &text)?;
-    let plan = window_in(rt.alloc(), &plant, 3)?;
-    let mut board = Board::open(rt.alloc(), &plan)?;
-    board.settle(rt.alloc())?;
-    if board.plan().plant().streams().len() < 4 {
-        return Err("too few streams".into());
+fn steps_narrow_or_change_nothing(rt: HostRuntime) -> Result<(), Fail> {
+    let plant = plant_with_units(rt.alloc(), &[WORKED_TANK])?;
+    try_steps(&rt, rt.alloc(), &plant)
+}
+
+/// The outflow and the level of a settled board, and the steps that made them.
+fn is_worked<R: Abort>(rt: &R, board: &Board<'_>) {
+    if board.plan().plant().streams().len() == 4 {
+        has_rows(rt, board.last(2), &OUTFLOW);
+        has_rows(rt, board.last(3), &LEVEL);
+        assert_eq!(rt; (board.versions(2), board.versions(3)), (2, 2));
     }
-    has_rows(&rt, board.last(2), &OUTFLOW);
-    has_rows(&rt, board.last(3), &LEVEL);
-    assert_eq!(rt; board.versions(2), 2);
     assert_eq!(rt; board.rows().len(), 2);
     for row in board.rows() {
         assert_eq!(rt; row.version, 1);
         assert!(rt; row.refs.as_slice() == [0, 0].as_slice());
     }
+}
+
+fn settles<R: Abort>(rt: &R, alloc: Global, plant: &Plant) -> Result<(), Fail> {
+    let plan = window_in(alloc, plant, 3)?;
+    let mut board = Board::open(alloc, &plan)?;
+    board.settle(alloc)?;
+    is_worked(rt, &board);
     Ok(())
+}
+
+#[test]
+fn worked_tank_settles_in_two_steps(rt: HostRuntime) -> Result<(), Fail> {
+    let plant = plant_with_units(rt.alloc(), &[WORKED_TANK])?;
+    assert_eq!(rt; plant.streams().len(), 4);
+    settles(&rt, rt.alloc(), &plant)
 }

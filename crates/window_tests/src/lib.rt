@@ -4,6 +4,8 @@
 #[cfg(test)]
 mod boards;
 #[cfg(test)]
+mod carrying;
+#[cfg(test)]
 mod renewals;
 #[cfg(test)]
 mod trains;

@@ -3,14 +3,14 @@
 ghost use Rattle.std.specs.Prelude.{◌≡◌, slice_set};
 ghost use Rattle.std.specs.Bool.{OnTrue};
 
-use crate::windows::window_in;
-use plant_texts::{LOW_FLOW, MIXER, TANK, Unit, plant_with};
+use crate::windows::{plant_with_units, window_in};
+use plant::Plant;
+use plant_texts::{MIXER, TANK, Unit};
 use quant::Band;
 use renewal::{Carried, Inputs, Outputs, WindowPlan, renew, tubes_stay_opened};
 use std::alloc::Global;
 use std::process::Abort;
 use std::test::Fail;
-use text_plants::plant_in;
 use tubes::Tube;
 
 /// It holds 1000 mL and lets out 10,000 ppm of them a tick.
@@ -96,17 +96,20 @@ pub(crate) const LEVEL: [Want; 3] = [
 /// The volume and the flow that it steps to at the end of the window.
 const LAST: [Want; 1] = [(3, &[(1_000, 1_006), (10, 10)])];
 
+fn renews_the_tank<R: Abort>(rt: &R, alloc: Global, plant: &Plant) -> Result<(), Fail> {
+    let plan = window_in(alloc, plant, 3)?;
+    let outputs = renewed(alloc, &plan, 0)?;
+    assert_eq!(rt; outputs.as_slice().len(), 2);
+    has_rows(rt, outputs.port(0), &OUTFLOW);
+    has_rows(rt, outputs.port(1), &LEVEL);
+    has_rows(rt, outputs.states(), &LAST);
+    Ok(())
+}
+
 #[test]
 fn renewal_of_the_worked_tank(rt: HostRuntime) -> Result<(), Fail> {
-    let text = plant_with(rt.alloc(), &[WORKED_TANK], &[LOW_FLOW])?;
-    let plant = plant_in(rt.alloc(), &text)?;
-    let plan = window_in(rt.alloc(), &plant, 3)?;
-    let outputs = renewed(rt.alloc(), &plan, 0)?;
-    assert_eq!(rt; outputs.as_slice().len(), 2);
-    has_rows(&rt, outputs.port(0), &OUTFLOW);
-    has_rows(&rt, outputs.port(1), &LEVEL);
-    has_rows(&rt, outputs.states(), &LAST);
-    Ok(())
+    let plant = plant_with_units(rt.alloc(), &[WORKED_TANK])?;
+    renews_the_tank(&rt, rt.alloc(), &plant)
 }
 
 /// Two of the feed's streams together, at each tick.
@@ -115,17 +118,20 @@ const MIXED: [Want; 2] = [
     (2, &[(20, 24), (100, 100), (300_000, 300_000)]),
 ];
 
-#[test]
-fn renewal_of_a_mixer(rt: HostRuntime) -> Result<(), Fail> {
-    let text = plant_with(rt.alloc(), &[WORKED_MIXER], &[])?;
-    let plant = plant_in(rt.alloc(), &text)?;
-    let plan = window_in(rt.alloc(), &plant, 3)?;
-    let outputs = renewed(rt.alloc(), &plan, 0)?;
+fn renews_the_mixer<R: Abort>(rt: &R, alloc: Global, plant: &Plant) -> Result<(), Fail> {
+    let plan = window_in(alloc, plant, 3)?;
+    let outputs = renewed(alloc, &plan, 0)?;
     assert_eq!(rt; outputs.as_slice().len(), 1);
-    has_rows(&rt, outputs.port(0), &MIXED);
+    has_rows(rt, outputs.port(0), &MIXED);
     assert_eq!(rt; outputs.states().ticks(), 4);
     assert_eq!(rt; ends_at(outputs.states(), 3, 0), None);
     Ok(())
+}
+
+#[test]
+fn renewal_of_a_mixer(rt: HostRuntime) -> Result<(), Fail> {
+    let plant = plant_with_units(rt.alloc(), &[WORKED_MIXER])?;
+    renews_the_mixer(&rt, rt.alloc(), &plant)
 }
 
 /// A tube with another band in one place.
@@ -144,17 +150,25 @@ const NARROWER: [Want; 3] = [
     (2, &[(1_001, 1_003)]),
 ];
 
+/// The tube of the first feed with 11 mL at tick 1.
+fn narrower_feed(alloc: Global, plan: &WindowPlan<'_>) -> Result<Tube, Fail> {
+    let fed = plan.feeds().as_slice().first().ok_or("no feed")?;
+    with_band(fed.copied(alloc)?, 1, 0, Band::point(11))
+}
+
+fn renews_from_less<R: Abort>(rt: &R, alloc: Global, plant: &Plant) -> Result<(), Fail> {
+    let plan = window_in(alloc, plant, 3)?;
+    let tube = narrower_feed(alloc, &plan)?;
+    let outputs = renewed_from(alloc, &plan, 0, &tube)?;
+    assert_eq!(rt; outputs.as_slice().len(), 2);
+    has_rows(rt, outputs.port(1), &NARROWER);
+    Ok(())
+}
+
 #[test]
 fn renewal_from_a_narrower_tube(rt: HostRuntime) -> Result<(), Fail> {
-    let text = plant_with(rt.alloc(), &[WORKED_TANK], &[LOW_FLOW])?;
-    let plant = plant_in(rt.alloc(), &text)?;
-    let plan = window_in(rt.alloc(), &plant, 3)?;
-    let fed = plan.feeds().as_slice().first().ok_or("no feed")?;
-    let tube = with_band(fed.copied(rt.alloc())?, 1, 0, Band::point(11))?;
-    let outputs = renewed_from(rt.alloc(), &plan, 0, &tube)?;
-    assert_eq!(rt; outputs.as_slice().len(), 2);
-    has_rows(&rt, outputs.port(1), &NARROWER);
-    Ok(())
+    let plant = plant_with_units(rt.alloc(), &[WORKED_TANK])?;
+    renews_from_less(&rt, rt.alloc(), &plant)
 }
 
 /// Writes a tube into the first input in place, where it has the shape.
@@ -184,17 +198,20 @@ fn first_inputs(alloc: Global, plan: &WindowPlan<'_>) -> Result<Inputs, Fail> {
     Ok(Inputs::room(alloc, plan, 0)?)
 }
 
-#[test]
-fn a_window_tells_what_it_is_made_of(rt: HostRuntime) -> Result<(), Fail> {
-    let text = plant_with(rt.alloc(), &[WORKED_TANK], &[LOW_FLOW])?;
-    let plant = plant_in(rt.alloc(), &text)?;
-    let plan = window_in(rt.alloc(), &plant, 3)?;
+fn tells_its_parts<R: Abort>(rt: &R, alloc: Global, plant: &Plant) -> Result<(), Fail> {
+    let plan = window_in(alloc, plant, 3)?;
     assert_eq!(rt; (plan.first(), plan.ticks()), (0, 3));
     assert_eq!(rt; first_carried(&plan), Some(Band::point(1_000)));
-    let mut inputs = first_inputs(rt.alloc(), &plan)?;
+    let mut inputs = first_inputs(alloc, &plan)?;
     let fed = plan.feeds().as_slice().first().ok_or("no feed")?;
     assert!(rt; write_first(&mut inputs, fed));
     assert_eq!(rt; inputs.as_slice().len(), 2);
-    assert_eq!(rt; Carried::opening(rt.alloc(), &plant)?.into_vec().len(), 1);
     Ok(())
+}
+
+#[test]
+fn a_window_tells_what_it_is_made_of(rt: HostRuntime) -> Result<(), Fail> {
+    let plant = plant_with_units(rt.alloc(), &[WORKED_TANK])?;
+    assert_eq!(rt; Carried::opening(rt.alloc(), &plant)?.into_vec().len(), 1);
+    tells_its_parts(&rt, rt.alloc(), &plant)
 }

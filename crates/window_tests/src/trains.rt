@@ -1,11 +1,11 @@
 //! Boards of units that are written against the flow: a sweep goes along the flow all the same.
 
-use crate::windows::window_in;
-use plant_texts::{LOW_FLOW, MIXER, SPLITTER, TANK, Unit, plant_with};
+use crate::windows::{plant_with_units, window_in};
+use plant::Plant;
+use plant_texts::{MIXER, SPLITTER, TANK, Unit};
 use relax_core::Board;
 use std::alloc::Global;
 use std::test::Fail;
-use text_plants::plant_in;
 
 /// Whether each of the first streams that units give has so many versions.
 fn has_versions(board: &Board<'_>, streams: u32, versions: u32) -> Result<(), Fail> {
@@ -20,11 +20,9 @@ fn has_versions(board: &Board<'_>, streams: u32, versions: u32) -> Result<(), Fa
     Ok(())
 }
 
-/// Settles three ticks of a plant of these units, and compares the numbers of versions.
-fn settles_with(alloc: Global, units: &[Unit], streams: u32, versions: u32) -> Result<(), Fail> {
-    let text = plant_with(alloc, units, &[LOW_FLOW])?;
-    let plant = plant_in(alloc, &text)?;
-    let plan = window_in(alloc, &plant, 3)?;
+/// Settles three ticks of a plant, and compares the numbers of versions.
+fn settles_with(alloc: Global, plant: &Plant, streams: u32, versions: u32) -> Result<(), Fail> {
+    let plan = window_in(alloc, plant, 3)?;
     let mut board = Board::open(alloc, &plan)?;
     board.settle(alloc)?;
     has_versions(&board, streams, versions)
@@ -41,7 +39,8 @@ const TRAIN: [Unit; 5] = [
 
 #[test]
 fn a_train_settles_in_one_sweep(rt: HostRuntime) -> Result<(), Fail> {
-    settles_with(rt.alloc(), &TRAIN, 12, 2)
+    let plant = plant_with_units(rt.alloc(), &TRAIN)?;
+    settles_with(rt.alloc(), &plant, 12, 2)
 }
 
 /// Two mixers and two splitters behind a tank, and back to it. A sweep knows their streams one tick further; the tank's
@@ -56,5 +55,6 @@ const CIRCLE: [Unit; 5] = [
 
 #[test]
 fn a_circle_settles_in_a_sweep_for_each_tick(rt: HostRuntime) -> Result<(), Fail> {
-    settles_with(rt.alloc(), &CIRCLE, 9, 4)
+    let plant = plant_with_units(rt.alloc(), &CIRCLE)?;
+    settles_with(rt.alloc(), &plant, 9, 4)
 }

@@ -5,7 +5,7 @@ use super::{Case, REFUSED, RUN};
 use crate::sources::Plant::{Bytes, Padded, With};
 use crate::written::Written::Ticks;
 
-pub static CASES: [Case; 24] = [
+pub static CASES: [Case; 22] = [
     RUN,
     Case {
         name: "feeds of one number",
@@ -28,18 +28,6 @@ pub static CASES: [Case; 24] = [
         name: "one byte more",
         plant: Padded(1_048_577),
         err: "flowrelax: P1 too long\n",
-        ..REFUSED
-    },
-    Case {
-        name: "a short window",
-        plant: With(&[("window = 3", "window = 2")]),
-        err: "flowrelax: P0 not built yet run.ticks\n",
-        ..REFUSED
-    },
-    Case {
-        name: "a width",
-        plant: With(&[("[limits]", "[width]\nflow = 5\n[limits]")]),
-        err: "flowrelax: P0 not built yet width\n",
         ..REFUSED
     },
     Case {

@@ -1,8 +1,8 @@
 //! Plants of the cases, and what the program writes of them.
 
 use crate::sources::{FIRST_TANK, Plant};
-pub use crate::written::{HEADER, TRACE_HEADER};
 use crate::written::Written;
+pub use crate::written::{HEADER, TRACE_HEADER};
 use plant_texts::{COLUMN, MIXER, RATES, REACTOR, SPLITTER, TANK, Unit};
 
 pub const NOTHING: Written = Written::Text("");
@@ -34,6 +34,16 @@ pub const OUTPUT: &str = "tick,stream,channel,lo,hi
 2,t1.out,temp,300000,300000
 2,t1.level,value,1000,1004
 ";
+
+/// The steps that settle a window of the worked text.
+pub const STEPS: [&str; 2] = ["t1.out,1,0 0", "t1.level,1,0 0"];
+
+/// Its first tick.
+pub const FIRST_TICK: &[&str] = &[
+    "f 10..12 100 300000; v 1000000; t1.out 10 0 300000; t1.level 1000",
+];
+
+pub const TOO_WIDE: &str = "flowrelax: wide stream t1.level channel value tick 1 width 2 limit 1\n";
 
 /// Where the inflow is the one number 10: it stays at 1,000 mL, and each band is one number.
 pub const STEADY_TICKS: &[&str] = &[

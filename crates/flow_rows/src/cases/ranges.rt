@@ -4,7 +4,7 @@ use super::{Case, try_cases};
 use crate::sources::Plant::With;
 use std::test::Fail;
 
-static CASES: [Case; 24] = [
+static CASES: [Case; 23] = [
     Case {
         name: "no tick",
         plant: With(&[("ticks = 3", "ticks = 0")]),
@@ -14,11 +14,6 @@ static CASES: [Case; 24] = [
         name: "a tick too many",
         plant: With(&[("ticks = 3", "ticks = 100001")]),
         refused: Some("P7 out of range run.ticks"),
-    },
-    Case {
-        name: "the most ticks, which are not built yet",
-        plant: With(&[("ticks = 3", "ticks = 100000")]),
-        refused: Some("P0 not built yet run.ticks"),
     },
     Case {
         name: "no window",
@@ -38,7 +33,7 @@ static CASES: [Case; 24] = [
     Case {
         name: "more ticks than the window",
         plant: With(&[("ticks = 3", "ticks = 4")]),
-        refused: Some("P0 not built yet run.ticks"),
+        refused: None,
     },
     Case {
         name: "ends the wrong way round",
@@ -116,9 +111,9 @@ static CASES: [Case; 24] = [
         refused: Some("P7 out of range width.signal"),
     },
     Case {
-        name: "the greatest width, which is not built yet",
+        name: "the greatest width",
         plant: With(&[("[limits]", "[width]\nsignal = 2000000000000\n[limits]")]),
-        refused: Some("P0 not built yet width"),
+        refused: None,
     },
     Case {
         name: "no widths",

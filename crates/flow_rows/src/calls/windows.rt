@@ -1,0 +1,113 @@
+//! Runs of several windows, relaxed and stepped, and runs that stop at a band that is too wide.
+
+use super::texts::{FIRST_TICK, HEADER, NOTHING, STEADY_TICKS, STEPS, TOO_WIDE, TRACE_HEADER};
+use super::{Case, OUT_FAULT, RUN, WORDS};
+use crate::sources::Plant::With;
+use crate::written::Written::{Steps, Text, Ticks};
+use flow_edge::Status;
+
+/// A level that may be 1 mL wide.
+const NARROW: (&str, &str) = ("[limits]", "[width]\nsignal = 1\n[limits]");
+
+/// The level of the worked text is wider at tick 1.
+const STOPPED: Case = Case {
+    plant: With(&[NARROW]),
+    status: Status::Wide,
+    out: Text(HEADER),
+    trace: Text(TRACE_HEADER),
+    err: TOO_WIDE,
+    ..RUN
+};
+
+/// The same output, and nothing in the trace.
+const DIRECT: Case = Case {
+    words: &["direct"],
+    trace: NOTHING,
+    ..RUN
+};
+
+pub static CASES: [Case; 13] = [
+    Case {
+        name: "windows of two ticks",
+        plant: With(&[("window = 3", "window = 2")]),
+        trace: Steps(2, STEPS),
+        ..RUN
+    },
+    Case {
+        name: "windows of one tick",
+        plant: With(&[("window = 3", "window = 1")]),
+        trace: Steps(3, STEPS),
+        ..RUN
+    },
+    Case {
+        name: "a window that is longer than the run",
+        plant: With(&[("window = 3", "window = 64")]),
+        trace: Steps(1, STEPS),
+        ..RUN
+    },
+    Case {
+        name: "widths that are kept",
+        plant: With(&[
+            ("flow = [10, 12]", "flow = 10"),
+            (
+                "[limits]",
+                "[width]\nflow = 0\nconc = 0\ntemp = 0\nsignal = 0\n[limits]",
+            ),
+        ]),
+        out: Ticks(STEADY_TICKS),
+        ..RUN
+    },
+    Case {
+        name: "a level that is too wide in the first window",
+        ..STOPPED
+    },
+    Case {
+        name: "a level that is too wide before the last tick of its window",
+        plant: With(&[NARROW, ("window = 3", "window = 2")]),
+        ..STOPPED
+    },
+    Case {
+        name: "a level that is too wide in the second window",
+        plant: With(&[NARROW, ("window = 3", "window = 1")]),
+        out: Ticks(FIRST_TICK),
+        trace: Steps(1, STEPS),
+        ..STOPPED
+    },
+    Case {
+        name: "the third write fails",
+        plant: With(&[("window = 3", "window = 1")]),
+        failing_writes: &[3],
+        out: Ticks(FIRST_TICK),
+        trace: Steps(1, STEPS),
+        ..OUT_FAULT
+    },
+    Case {
+        name: "the worked text, stepped",
+        ..DIRECT
+    },
+    Case {
+        name: "the worked text, stepped in windows of two ticks",
+        plant: With(&[("window = 3", "window = 2")]),
+        ..DIRECT
+    },
+    Case {
+        name: "a level that is too wide, stepped",
+        words: &["direct"],
+        trace: NOTHING,
+        ..STOPPED
+    },
+    Case {
+        name: "the second write of what is stepped fails",
+        words: &["direct"],
+        failing_writes: &[2],
+        out: Text(HEADER),
+        trace: NOTHING,
+        ..OUT_FAULT
+    },
+    Case {
+        name: "an option that stepping has not",
+        words: &["direct", "--journal", "a"],
+        err: "flowrelax: words refused at 2\n",
+        ..WORDS
+    },
+];
