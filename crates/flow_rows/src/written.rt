@@ -18,9 +18,8 @@ pub enum Written {
     /// Whatever begins or ends with this.
     Starts(&'static str),
     Ends(&'static str),
-    /// The header of a trace, and then for each of so many windows two steps with these streams, versions and inputs, in one order
-    /// or in the other.
-    Steps(u32, [&'static str; 2]),
+    /// The trace of so many windows of the worked text: in each one step of either of the tank's outputs.
+    Steps(u32),
 }
 
 fn push_row(
@@ -61,8 +60,11 @@ pub fn output_of(alloc: Global, ticks: &[&str]) -> Result<String, Fail> {
     Ok(text)
 }
 
+/// The steps that settle a window of the worked text, in either order.
+const STEPS: (&str, &str) = ("t1.out,1,0 0", "t1.level,1,0 0");
+
 /// The header of a trace, and these two steps in each of the first windows.
-fn trace_of(alloc: Global, windows: u32, one: &str, other: &str) -> Result<String, Fail> {
+fn trace_of(alloc: Global, windows: u32, (one, other): (&str, &str)) -> Result<String, Fail> {
     let mut text = String::from_str(alloc, TRACE_HEADER)?;
     for window in 0..windows {
         let steps = format!(in alloc; "{window},0,{one}\n{window},1,{other}\n")?;
@@ -71,16 +73,12 @@ fn trace_of(alloc: Global, windows: u32, one: &str, other: &str) -> Result<Strin
     Ok(text)
 }
 
-/// Whether it is a trace of these two steps in each window, in one order or in the other.
-fn are_steps(
-    alloc: Global,
-    windows: u32,
-    [one, other]: [&str; 2],
-    found: &[u8],
-) -> Result<bool, Fail> {
+/// Whether it is the trace of so many windows, in one order of their steps or in the other.
+fn are_steps(alloc: Global, windows: u32, found: &[u8]) -> Result<bool, Fail> {
+    let (one, other) = STEPS;
     Ok(
-        found == trace_of(alloc, windows, one, other)?.as_bytes()
-            || found == trace_of(alloc, windows, other, one)?.as_bytes(),
+        found == trace_of(alloc, windows, (one, other))?.as_bytes()
+            || found == trace_of(alloc, windows, (other, one))?.as_bytes(),
     )
 }
 
@@ -91,6 +89,6 @@ pub fn is_written(alloc: Global, written: Written, found: &[u8]) -> Result<bool,
         Written::Ticks(ticks) => found == output_of(alloc, ticks)?.as_bytes(),
         Written::Starts(start) => found.starts_with(start.as_bytes()),
         Written::Ends(end) => found.ends_with(end.as_bytes()),
-        Written::Steps(windows, steps) => are_steps(alloc, windows, steps, found)?,
+        Written::Steps(windows) => are_steps(alloc, windows, found)?,
     })
 }

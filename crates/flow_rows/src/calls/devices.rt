@@ -1,6 +1,6 @@
 //! Runs over words that are refused, and over devices that fail.
 
-use super::texts::{HEADER, NOTHING, OUTPUT, STEPS, TRACE_HEADER, TRACE_WRITE_FAULT};
+use super::texts::{HEADER, NOTHING, OUTPUT, TRACE_HEADER, TRACE_WRITE_FAULT};
 use super::{Case, OUT_FAULT, READ_FAULT, REFUSED, RUN, WORDS};
 use crate::sources::Plant::Bytes;
 use crate::written::Written::{Steps, Text};
@@ -102,7 +102,7 @@ pub static CASES: [Case; 19] = [
     Case {
         name: "the steps of the worked text",
         words: &["run", "--journal", "trace.csv"],
-        trace: Steps(1, STEPS),
+        trace: Steps(1),
         ..RUN
     },
     Case {

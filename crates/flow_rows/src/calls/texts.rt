@@ -35,10 +35,7 @@ pub const OUTPUT: &str = "tick,stream,channel,lo,hi
 2,t1.level,value,1000,1004
 ";
 
-/// The steps that settle a window of the worked text.
-pub const STEPS: [&str; 2] = ["t1.out,1,0 0", "t1.level,1,0 0"];
-
-/// Its first tick.
+/// The first tick of the worked text.
 pub const FIRST_TICK: &[&str] = &[
     "f 10..12 100 300000; v 1000000; t1.out 10 0 300000; t1.level 1000",
 ];

@@ -1,6 +1,6 @@
 //! Runs of several windows, relaxed and stepped, and runs that stop at a band that is too wide.
 
-use super::texts::{FIRST_TICK, HEADER, NOTHING, STEADY_TICKS, STEPS, TOO_WIDE, TRACE_HEADER};
+use super::texts::{FIRST_TICK, HEADER, NOTHING, STEADY_TICKS, TOO_WIDE, TRACE_HEADER};
 use super::{Case, OUT_FAULT, RUN, WORDS};
 use crate::sources::Plant::With;
 use crate::written::Written::{Steps, Text, Ticks};
@@ -30,19 +30,19 @@ pub static CASES: [Case; 13] = [
     Case {
         name: "windows of two ticks",
         plant: With(&[("window = 3", "window = 2")]),
-        trace: Steps(2, STEPS),
+        trace: Steps(2),
         ..RUN
     },
     Case {
         name: "windows of one tick",
         plant: With(&[("window = 3", "window = 1")]),
-        trace: Steps(3, STEPS),
+        trace: Steps(3),
         ..RUN
     },
     Case {
         name: "a window that is longer than the run",
         plant: With(&[("window = 3", "window = 64")]),
-        trace: Steps(1, STEPS),
+        trace: Steps(1),
         ..RUN
     },
     Case {
@@ -70,7 +70,7 @@ pub static CASES: [Case; 13] = [
         name: "a level that is too wide in the second window",
         plant: With(&[NARROW, ("window = 3", "window = 1")]),
         out: Ticks(FIRST_TICK),
-        trace: Steps(1, STEPS),
+        trace: Steps(1),
         ..STOPPED
     },
     Case {
@@ -78,7 +78,7 @@ pub static CASES: [Case; 13] = [
         plant: With(&[("window = 3", "window = 1")]),
         failing_writes: &[3],
         out: Ticks(FIRST_TICK),
-        trace: Steps(1, STEPS),
+        trace: Steps(1),
         ..OUT_FAULT
     },
     Case {
