@@ -166,6 +166,11 @@ fn ends_each_call_as_it_should(rt: HostRuntime) -> Result<(), Fail> {
 }
 
 #[test]
+fn writes_ranks_as_it_should(rt: HostRuntime) -> Result<(), Fail> {
+    try_cases(&rt, rt.alloc(), &kinds::RANKED)
+}
+
+#[test]
 fn ends_calls_of_all_kinds_as_it_should(rt: HostRuntime) -> Result<(), Fail> {
     try_cases(&rt, rt.alloc(), &kinds::CASES)
 }

@@ -8,13 +8,8 @@ use crate::written::Written::{Ends, Text, Ticks};
 use flow_edge::Status;
 use plant_texts::{MIXED, SPLITTER};
 
-pub static CASES: [Case; 25] = [
-    Case {
-        name: "a splitter",
-        plant: One(SPLITTER, &[]),
-        out: Ticks(SPLIT_TICKS),
-        ..RUN
-    },
+/// Plants whose ranks are written.
+pub static RANKED: [Case; 9] = [
     Case {
         name: "the ranks of a tank",
         ..CHECK
@@ -40,6 +35,39 @@ pub static CASES: [Case; 25] = [
         plant: Splitters(16),
         out: Text(SIXTEEN_RANKS),
         ..CHECK
+    },
+    Case {
+        name: "every kind but a tank",
+        plant: Plant::Text(MIXED, &[]),
+        out: Text(MIXED_RANKS),
+        ..CHECK
+    },
+    Case {
+        name: "more ticks than the window, which are not judged",
+        plant: With(&[("ticks = 3", "ticks = 100000")]),
+        ..CHECK
+    },
+    Case {
+        name: "a recycle from a mixer on",
+        plant: MIXER_RECYCLE,
+        out: Text(MIXER_RECYCLE_RANKS),
+        ..CHECK
+    },
+    Case {
+        name: "a tank and sixteen splitters",
+        plant: SplittersToo(16),
+        out: Ends("s15,splitter,15\ns16,splitter,16\n"),
+        ..CHECK
+    },
+];
+
+/// Plants that are run, and plants and words that are refused.
+pub static CASES: [Case; 16] = [
+    Case {
+        name: "a splitter",
+        plant: One(SPLITTER, &[]),
+        out: Ticks(SPLIT_TICKS),
+        ..RUN
     },
     Case {
         name: "one splitter more",
@@ -107,27 +135,10 @@ pub static CASES: [Case; 25] = [
         ..OUT_FAULT
     },
     Case {
-        name: "every kind but a tank",
-        plant: Plant::Text(MIXED, &[]),
-        out: Text(MIXED_RANKS),
-        ..CHECK
-    },
-    Case {
-        name: "more ticks than the window, which are not judged",
-        plant: With(&[("ticks = 3", "ticks = 100000")]),
-        ..CHECK
-    },
-    Case {
         name: "a mixer fed by its own splitter",
         plant: MIXER_LOOP,
         err: "flowrelax: P19 instant loop t1\n",
         ..NO
-    },
-    Case {
-        name: "a recycle from a mixer on",
-        plant: MIXER_RECYCLE,
-        out: Text(MIXER_RECYCLE_RANKS),
-        ..CHECK
     },
     Case {
         name: "k below 0",
@@ -135,12 +146,6 @@ pub static CASES: [Case; 25] = [
         plant: With(&[("k = 10000", "k = -1")]),
         err: "flowrelax: P7 out of range unit[0].k\n",
         ..REFUSED
-    },
-    Case {
-        name: "a tank and sixteen splitters",
-        plant: SplittersToo(16),
-        out: Ends("s15,splitter,15\ns16,splitter,16\n"),
-        ..CHECK
     },
     Case {
         name: "a tank and one splitter more",
