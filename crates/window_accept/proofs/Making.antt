@@ -36,16 +36,16 @@ fault-ends relaxes session reader read (feed.TooLong at) going asks = unfed (fee
 fault-ends relaxes session reader read feed.ReadFault going asks = unfed feed.ReadFault going asks (λ e. cc) refl
 
 -- the session before the first window is one
-pub opening-session : (parts : FileParts) (carried : List (List Interval)) → IsPlant parts →
-    carried ≡ map opening_of (units_of parts) →
-    IsSession (record { parts = parts; tick = 0; carried = carried; end = None })
-opening-session parts carried plant is =
-    let plan : IsPlan (run_plan parts 0 1) = is-plan parts 0 1 plant (omega arith) (omega arith) (omega (arith, plant.ranges.ticks.0)) in
-    let same : (run_plan parts 0 1).carried ≡ carried = opening-is parts 1 ∙ sym is in
+pub opening-session : (file : FileParts) (carried : List (List Interval)) → IsPlant file →
+    carried ≡ map opening_of (units_of file) →
+    IsSession (record { parts = file; tick = 0; carried = carried; end = None })
+opening-session file carried plant is =
+    let plan : IsPlan (run_plan file 0 1) = is-plan file 0 1 plant (omega arith) (omega arith) (omega (arith, plant.ranges.ticks.0)) in
+    let same : (run_plan file 0 1).carried ≡ carried = opening-is file 1 ∙ sym is in
     record {
       plant = plant;
       tick = omega arith;
-      carried = subst (AreCarried parts) same (record { counted = plan.units; within = plan.carried });
+      carried = subst (AreCarried file) same (record { counted = plan.units; within = plan.carried });
     }
 
 -- what the reader was asked, by a session that is seen
