@@ -1,0 +1,3 @@
+pub mod Stages
+pub mod Below
+pub mod Ranges
