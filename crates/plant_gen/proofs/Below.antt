@@ -1,5 +1,5 @@
 -- Tests of the numbers below a number, which are computed.
-use Rattle.std.proofs.Common.{ℕ, zero, suc, ◌<◌, ◌≤◌, ◌≡◌, Bool, true, false, ◌&&◌, ⊎_elim, arith, refl, subst, sym}
+use Rattle.std.proofs.Common.{ℕ, zero, suc, ◌<◌, ◌≡◌, Bool, true, false, ◌&&◌, ⊎_elim, arith, refl, subst}
 use Rattle.std.proofs.lemmas.Bool.{cases_lt}
 
 -- each number below n passes the test

@@ -1,3 +1,9 @@
-pub mod Stages
 pub mod Below
+pub mod Stages
 pub mod Ranges
+pub mod Coded
+pub mod Names
+pub mod Sources
+pub mod Passing
+pub mod Ranking
+pub mod Accepted

@@ -1,20 +1,21 @@
 -- The parts of a generated plant are in range.
-use Rattle.std.proofs.Common.{ℕ, zero, suc, pos, ◌+◌, ◌*◌, ◌<◌, ◌≤◌, ◌≡◌, true, ◌&&◌, List, [], ◌∷◌, length, arith, refl}
-use Rattle.std.proofs.Common.{codes, flat_map, subst}
+use Rattle.std.proofs.Common.{ℕ, pos, ◌+◌, ◌*◌, ◌<◌, ◌≤◌, ◌≡◌, true, List, arith, refl}
+use Rattle.std.proofs.Common.{codes, flat_map}
 use Rattle.std.specs.Fmt.{digits}
-use Rattle.std.specs.List.{range_with_len, AllByRecursion}
+use Rattle.std.specs.List.{range_with_len}
 use Rattle.std.proofs.lemmas.Int.{ints}
-use Rattle.quant.specs.Interval.{Interval, IsInside, wide, point}
+use Rattle.quant.specs.Interval.{point}
 use Rattle.quant.specs.declared.limits.Limits.{Limits}
 use Rattle.plant_names.specs.Name.{is_name, is_reference}
-use Rattle.parts.specs.Parts.{FileParts, file_parts}
-use Rattle.parts.specs.InRange.{IsWide, IsUnitPart, AreInRange, IsKindPart, AreOwnLimits, AreWideLimits, AreFeeds, from_to}
+use Rattle.parts.specs.Parts.{file_parts}
+use Rattle.parts.specs.InRange.{IsWide, IsUnitPart, AreInRange, AreOwnLimits, AreWideLimits, AreFeeds, from_to}
 use Rattle.parts.specs.declared.units.UnitPart.{UnitPart}
 use Rattle.parts.specs.declared.feeds.FeedPart.{FeedPart}
 use Rattle.plant_gen.specs.Generated.{mixer_name, tank_name, splitter_name, output_name, taken_in, no_own_limits}
 use Rattle.plant_gen.specs.Generated.{mixer_of, tank_of, splitter_of, stage_of, generated_parts, generated_limits}
 use Rattle.plant_gen.specs.Generated.{generated_feeds, no_widths}
-use Rattle.plant_gen.proofs.Below.{all_below, both, passes-below}
+use Rattle.plant_gen.proofs.Below.{passes-below}
+use Rattle.plant_gen.proofs.Stages.{all-stages, units-counted}
 
 -- the names of each stage are names
 names-are : (i : ℕ) → i < 80 →
@@ -83,23 +84,6 @@ splitter-in i h = record {
   limits = no-own;
 }
 
-units-in : (i k : ℕ) → i + k ≤ 80 → AllByRecursion IsUnitPart (flat_map stage_of (range_with_len i k))
-units-in i zero h = tt
-units-in i (suc k) h = (
-  mixer-in i (omega arith),
-  (
-    tank-in i (omega arith),
-    (
-      splitter-in i (omega arith),
-      units-in (i + 1) k (omega arith),
-    ),
-  ),
-)
-
-pub units-counted : (i k : ℕ) → length (flat_map stage_of (range_with_len i k)) ≡ 3 * k
-units-counted i zero = refl
-units-counted i (suc k) = omega (arith, units-counted (i + 1) k)
-
 feeds-in : AreFeeds generated_feeds
 unfolding is_name
 feeds-in = (
@@ -141,7 +125,11 @@ in_range n some few = record {
   limits = limits-in;
   width = record { flow = tt; conc = tt; temp = tt; signal = tt };
   feeds = feeds-in;
-  units = (omega (arith, units-counted 0 n), omega (arith, units-counted 0 n), units-in 0 n (omega arith));
+  units = (
+    omega (arith, units-counted 0 n),
+    omega (arith, units-counted 0 n),
+    all-stages IsUnitPart 80 mixer-in tank-in splitter-in 0 n (omega arith),
+  );
 }
 
 pub made_in_range : (n : ℕ) (limits : Limits) (feeds : List FeedPart) (units : List UnitPart) →

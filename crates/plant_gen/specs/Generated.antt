@@ -1,8 +1,8 @@
--- The plants that are generated: trains of so many stages, each a mixer, a tank and a splitter that sends a part back to
--- the mixer. Each stage takes in what the one before it passes on, and the first the feed.
+-- The plants that are generated: trains of so many stages, each a mixer, a tank and a splitter that sends a part back
+-- to the mixer. Each stage takes in what the one before it passes on, and the first the feed.
 use Rattle.std.specs.Prelude.{ℕ, zero, suc, pos, ◌+◌, ◌*◌, List, [], ◌∷◌, ◌++◌, codes, decimal, None, flat_map}
 use Rattle.std.specs.List.{range_with_len}
-use Rattle.quant.specs.Interval.{Interval, point}
+use Rattle.quant.specs.Interval.{point}
 use Rattle.quant.specs.declared.limits.Limits.{Limits}
 use Rattle.parts.specs.Parts.{FileParts}
 use Rattle.parts.specs.InRange.{from_to, OwnLimits}

@@ -3,6 +3,8 @@
 
 mod feeds;
 mod generated;
+mod laws;
 mod units;
 
 pub use generated::plant_of;
+pub use laws::generated_plants_are_plants;
