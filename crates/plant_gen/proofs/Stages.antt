@@ -1,6 +1,6 @@
 -- Lists of stages, and of three things for each.
 use Rattle.std.proofs.Common.{ℕ, zero, suc, ◌+◌, ◌*◌, ◌<◌, ◌≤◌, ◌≡◌, ◌++◌, List, [], ◌∷◌, map, length, flat_map, Ok}
-use Rattle.std.proofs.Common.{arith, refl, add-one, add-zero, zero-add, subst, subst₂, ap₂, slice_index_or, ⊎_elim, ◌/◌}
+use Rattle.std.proofs.Common.{arith, refl, add-one, add-zero, zero-add, subst, ap₂, slice_index_or, ⊎_elim, ◌/◌}
 use Rattle.std.proofs.Common.{◌%◌}
 use Rattle.std.specs.List.{range_with_len, AllByRecursion}
 use Rattle.std.proofs.lemmas.Bool.{cases_lt}

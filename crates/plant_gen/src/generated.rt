@@ -30,10 +30,11 @@ fn limits() -> Limits
 }
 
 /// The parts of a train of so many stages, 1 to 80, over 48 ticks in windows of 16. Stage `i` is a mixer `m{i}`, a tank
-/// `t{i}` and a splitter `s{i}`, of which the mixer takes in the feed `f`, or what the stage before passes on, and a tenth
-/// of what its tank gives. The signal `v` opens all valves wholly.
+/// `t{i}` and a splitter `s{i}`. The mixer takes in the feed `f`, or what the stage before passes on, and the tenth of
+/// what its tank gives that the splitter sends back. The signal `v` opens all valves wholly.
 ///
-/// Flows are in mL per tick, volumes in mL, concentrations in mg/L and temperatures in mK. The one error is want of memory.
+/// Flows are in mL per tick, volumes in mL, concentrations in mg/L and temperatures in mK. The one error is want of
+/// memory.
 #[tactic(auto, unfolding(crate::specs::Generated::generated_parts))]
 pub fn plant_of(alloc: Global, count: u32) -> Result<Parts, AllocError>
     requires some { 1 ≤ count }

@@ -64,8 +64,8 @@ fn mixer_of(alloc: Global, stage: u32) -> Result<UnitPart, AllocError>
     Ok(unit_of(unit_name(alloc, "m", stage)?, kind))
 }
 
-/// The tank of a stage. It opens with 1,000 mL, and 10 more for each stage before it, and an outflow of 100 mL per tick,
-/// and 1 more for each.
+/// The tank of a stage. It opens with 1,000 mL, and 10 more for each stage before it, and with an outflow of 100 mL per
+/// tick, and 1 more for each.
 fn tank_of(alloc: Global, stage: u32) -> Result<UnitPart, AllocError>
     ensures { IfOk result (λ unit. unit ≡ tank_of stage) }
 {
