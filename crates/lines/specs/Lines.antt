@@ -1,41 +1,26 @@
 -- A text that is cut into lines, and lines that are cut into fields.
-use Rattle.std.specs.Prelude.{◌≡◌, ◌≢◌, ℕ, ◌-◌, ◌≤◌, ◌==◌, not, List, [], ◌∷◌, length, map, take, drop, slice_index_or, Option, Some, None, if◌then◌else◌}
-use Rattle.std.specs.List.{filter}
+use Rattle.std.specs.Prelude.{◌≡◌, ◌≢◌, ℕ, ◌-◌, ◌≤◌, ◌==◌, not, List, [], ◌∷◌, length, map, take, drop, slice_index, slice_range, Option, Some, None}
+use Rattle.std.specs.List.{filter, slice_split}
+use Rattle.std.specs.Str.Lines.{strip_carriage_return}
 use Rattle.lines.specs.declared.cutting.Line.{Line}
 
 abbrev pub line_feed : ℕ
 line_feed = 10
 
-abbrev pub carriage_return : ℕ
-carriage_return = 13
-
 abbrev pub comma : ℕ
 comma = 44
 
--- a byte before some pieces joins the first of them
-abbrev pub joined : ℕ → List (List ℕ) → List (List ℕ)
-joined byte [] = (byte ∷ []) ∷ []
-joined byte (piece ∷ rest) = (byte ∷ piece) ∷ rest
-
 -- the pieces of a text between its separators: one more than there are of these
 abbrev pub pieces_of : ℕ → List ℕ → List (List ℕ)
-pieces_of separator [] = [] ∷ []
-pieces_of separator (byte ∷ rest) =
-    if byte == separator then [] ∷ pieces_of separator rest else joined byte (pieces_of separator rest)
+pieces_of separator text = slice_split (λ byte. byte == separator) text
 
 -- the fields of a line: what stands between its commas
 abbrev pub fields_of : List ℕ → List (List ℕ)
 fields_of line = pieces_of comma line
 
--- a piece without the carriage return at its end
-abbrev pub without_return : List ℕ → List ℕ
-without_return [] = []
-without_return (byte ∷ []) = if byte == carriage_return then [] else byte ∷ []
-without_return (byte ∷ next ∷ rest) = byte ∷ without_return (next ∷ rest)
-
--- the lines that pieces of a text make: without the carriage return at their end, and none that is then empty
+-- the lines that pieces of a text make: without the one carriage return at their end, and none that is then empty
 abbrev pub lines_in : List (List ℕ) → List (List ℕ)
-lines_in pieces = filter (λ line. not (length line == 0)) (map without_return pieces)
+lines_in pieces = filter (λ line. not (length line == 0)) (map strip_carriage_return pieces)
 
 -- the lines of a text: it is cut at each line feed, and what follows the last one is a line too
 abbrev pub lines_of : List ℕ → List (List ℕ)
@@ -49,10 +34,6 @@ all_but_last pieces = take (length pieces - 1) pieces
 abbrev pub ended_lines_of : List ℕ → List (List ℕ)
 ended_lines_of text = lines_in (all_but_last (pieces_of line_feed text))
 
--- the bytes from one place up to another
-abbrev pub between : List ℕ → ℕ → ℕ → List ℕ
-between bytes start stop = take (stop - start) (drop start bytes)
-
 -- The first line from this place on: it stands between its start and its stop, with nothing but empty lines before it, and the lines
 -- after it begin behind its end. It is ended by a line feed, or the text ends with it.
 pub record IsLineAt (bytes : List ℕ) (from : ℕ) (line : Line) : Type 0 where
@@ -60,11 +41,11 @@ pub record IsLineAt (bytes : List ℕ) (from : ℕ) (line : Line) : Type 0 where
   pub stop : line.start ≤ line.stop
   pub after : line.stop ≤ line.after
   pub inside : line.after ≤ length bytes
-  pub lines : lines_of (drop from bytes) ≡ between bytes line.start line.stop ∷ lines_of (drop line.after bytes)
+  pub lines : lines_of (drop from bytes) ≡ slice_range bytes line.start line.stop ∷ lines_of (drop line.after bytes)
   -- it is among the lines that a line feed ends, where one stands before what follows it; else the text ends with it
-  pub ended : slice_index_or bytes (line.after - 1) 0 ≡ line_feed →
-      ended_lines_of (drop from bytes) ≡ between bytes line.start line.stop ∷ ended_lines_of (drop line.after bytes)
-  pub unended : slice_index_or bytes (line.after - 1) 0 ≢ line_feed →
+  pub ended : slice_index bytes (line.after - 1) ≡ line_feed →
+      ended_lines_of (drop from bytes) ≡ slice_range bytes line.start line.stop ∷ ended_lines_of (drop line.after bytes)
+  pub unended : slice_index bytes (line.after - 1) ≢ line_feed →
       (ended_lines_of (drop from bytes) ≡ []) × (line.after ≡ length bytes)
 
 -- the first line from this place on, or none where there is no further line

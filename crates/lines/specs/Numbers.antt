@@ -1,14 +1,12 @@
 -- The numbers that fields write.
 use Rattle.std.specs.Prelude.{◌&&◌, ◌==◌, ◌-◌, ℕ, ℤ, pos, ◌-ℤ◌, nat_le, Bool, List, [], ◌∷◌, length, map, Option, Some, None, if◌then◌else◌}
 use Rattle.std.specs.List.{list_all}
+use Rattle.std.specs.Char.{is_ascii_digit}
 use Rattle.std.specs.Int.Digits.{number_from_digits}
-
-abbrev pub is_digit : ℕ → Bool
-is_digit byte = nat_le 48 byte && nat_le byte 57
 
 -- 1 to so many decimal digits, and nothing else
 abbrev pub are_digits : ℕ → List ℕ → Bool
-are_digits most field = (nat_le 1 (length field) && nat_le (length field) most) && list_all is_digit field
+are_digits most field = (nat_le 1 (length field) && nat_le (length field) most) && list_all is_ascii_digit field
 
 -- the number that decimal digits write
 abbrev pub digits_value : List ℕ → ℕ
