@@ -1,4 +1,4 @@
--- Texts that are cut at their first separator.
+-- Texts that are cut at their first separator, and the line that begins at a place.
 use Rattle.std.proofs.Common.{◌≡◌, ◌≢◌, ℕ, suc, inl, inr, ◌+◌, ◌-◌, ◌<◌, ◌≤◌, false, eqb, List, [], ◌∷◌, length, take, drop, Some, None, refl, ◌∙◌, ap, arith, length-drop, length-take}
 use Rattle.std.specs.List.{position_or_len, slice_range, slice_index, All}
 use Rattle.std.specs.Str.Lines.{strip_carriage_return}
@@ -35,7 +35,8 @@ pieces_at separator text i found =
     let e = slice_split_first (λ byte. eqb byte separator) text 0 (omega arith) in
     rw at at e
 
-pub pieces_none : (separator : ℕ) (text : List ℕ) → place_of separator text ≡ None → pieces_of separator text ≡ text ∷ []
+pub pieces_none : (separator : ℕ) (text : List ℕ) → place_of separator text ≡ None →
+    pieces_of separator text ≡ text ∷ []
 pieces_none separator text none = slice_split_none (λ byte. eqb byte separator) text (none_within separator text none)
 
 pub fields_at : (line : List ℕ) (i n : ℕ) → place_of comma line ≡ Some i → n ≡ length line - (i + 1) →
@@ -43,7 +44,7 @@ pub fields_at : (line : List ℕ) (i n : ℕ) → place_of comma line ≡ Some i
 fields_at line i n found e = rw (e, take_rest) (pieces_at comma line i found)
 
 -- what is cut off is a line, where it is not empty, before the lines of the other pieces
-lines-cons : (piece : List ℕ) (pieces : List (List ℕ)) →
+pub lines-cons : (piece : List ℕ) (pieces : List (List ℕ)) →
     lines_in (piece ∷ pieces) ≡ before_lines (strip_carriage_return piece) (lines_in pieces)
 lines-cons piece pieces = grind arith
 
@@ -58,7 +59,7 @@ last-cons piece (next ∷ pieces) some =
     let f : suc (length pieces) - 1 ≡ length pieces = omega arith in
     rw (e, f)
 
-stripped_front : (piece : List ℕ) → take (length (strip_carriage_return piece)) piece ≡ strip_carriage_return piece
+pub stripped_front : (piece : List ℕ) → take (length (strip_carriage_return piece)) piece ≡ strip_carriage_return piece
 stripped_front piece = grind (arith, take_all, length-take)
 
 stripped_le : (piece : List ℕ) → length (strip_carriage_return piece) ≤ length piece
@@ -74,29 +75,30 @@ keeps bytes start n kept within e =
     let piece = take n (drop start bytes) in
     let least : length kept ≤ n = omega (arith, stripped_le piece, length-take n (drop start bytes), ap length e) in
     let size : start + length kept - start ≡ length kept = omega arith in
-    record { least = least; range = rw (size, ← take-take (length kept) n (drop start bytes) least, e) (stripped_front piece) }
+    let front = take-take (length kept) n (drop start bytes) least in
+    record { least = least; range = rw (size, ← front, e) (stripped_front piece) }
 
 -- a piece before the pieces of a text is a line before its lines, where it is not empty
-lines_before : (text piece rest : List ℕ) → pieces_of line_feed text ≡ piece ∷ pieces_of line_feed rest →
+pub lines_before : (text piece rest : List ℕ) → pieces_of line_feed text ≡ piece ∷ pieces_of line_feed rest →
     lines_of text ≡ before_lines (strip_carriage_return piece) (lines_of rest)
 lines_before text piece rest cut = ap lines_in cut ∙ lines-cons piece (pieces_of line_feed rest)
 
-ended_before : (text piece rest : List ℕ) → pieces_of line_feed text ≡ piece ∷ pieces_of line_feed rest →
+pub ended_before : (text piece rest : List ℕ) → pieces_of line_feed text ≡ piece ∷ pieces_of line_feed rest →
     ended_lines_of text ≡ before_lines (strip_carriage_return piece) (ended_lines_of rest)
 ended_before text piece rest cut =
     ap (λ pieces. lines_in (all_but_last pieces)) cut
     ∙ ap lines_in (last-cons piece (pieces_of line_feed rest) (some_pieces line_feed rest))
     ∙ lines-cons piece (all_but_last (pieces_of line_feed rest))
 
-feed_at : (bytes : List ℕ) (start at after : ℕ) → place_of line_feed (drop start bytes) ≡ Some at → after ≡ start + at + 1 →
-    slice_index bytes (after - 1) ≡ line_feed
+feed_at : (bytes : List ℕ) (start at after : ℕ) → place_of line_feed (drop start bytes) ≡ Some at →
+    after ≡ start + at + 1 → slice_index bytes (after - 1) ≡ line_feed
 feed_at bytes start at after found e =
     let passes = (position-Some _ (drop start bytes) at 0 found).1 in
     let here : start + at + 1 - 1 ≡ start + at = omega arith in
     rw (e, here, ← get_or-drop start bytes at 0) (grind (arith, passes))
 
-no_feed : (bytes : List ℕ) (start after : ℕ) → place_of line_feed (drop start bytes) ≡ None → start < after → after ≤ length bytes →
-    slice_index bytes (after - 1) ≢ line_feed
+no_feed : (bytes : List ℕ) (start after : ℕ) → place_of line_feed (drop start bytes) ≡ None →
+    start < after → after ≤ length bytes → slice_index bytes (after - 1) ≢ line_feed
 no_feed bytes start after none more within feed =
     let size = length-drop start bytes in
     let fails = none_within line_feed (drop start bytes) none (after - 1 - start) 0 (omega arith) in
@@ -110,7 +112,8 @@ pub begins_ended : (bytes : List ℕ) (start at : ℕ) (kept : List ℕ) → pla
 begins_ended bytes start at kept found e =
     let rest = drop start bytes in
     let within : at < length rest = (position-Some _ rest at 0 found).0 in
-    let behind : drop (at + 1) rest ≡ drop (start + at + 1) bytes = drop-drop (at + 1) start bytes ∙ ap (λ n. drop n bytes) (omega arith) in
+    let behind : drop (at + 1) rest ≡ drop (start + at + 1) bytes =
+    drop-drop (at + 1) start bytes ∙ ap (λ n. drop n bytes) (omega arith) in
     let cut : pieces_of line_feed rest ≡ take at rest ∷ pieces_of line_feed (drop (start + at + 1) bytes) =
     rw (← behind) (pieces_at line_feed rest at found) in
     let kept_of = keeps bytes start at kept (omega arith) e in
@@ -147,15 +150,15 @@ begins_unended bytes start kept none e more =
       unended = λ _. (ap (λ pieces. lines_in (all_but_last pieces)) cut, omega arith);
     }
 
-full : (line : List ℕ) (lines : List (List ℕ)) → 0 < length line → before_lines line lines ≡ line ∷ lines
+pub full : (line : List ℕ) (lines : List (List ℕ)) → 0 < length line → before_lines line lines ≡ line ∷ lines
 full line lines some = grind arith
 
 empty : (line : List ℕ) (lines : List (List ℕ)) → length line ≡ 0 → before_lines line lines ≡ lines
 empty line lines none = grind arith
 
-pub found : (bytes : List ℕ) (from start : ℕ) (line : Line) → PassesEmpty bytes from start → BeginsLine bytes start line →
-    line.start < line.stop → IsLineAt bytes from line
-found bytes from start line passed begun some =
+pub line_found : (bytes : List ℕ) (from start : ℕ) (line : Line) → PassesEmpty bytes from start →
+    BeginsLine bytes start line → line.start < line.stop → IsLineAt bytes from line
+line_found bytes from start line passed begun some =
     let size : 0 < length (slice_range bytes line.start line.stop) =
     omega (arith, length-between bytes line.start line.stop (omega arith)) in
     record {
@@ -168,9 +171,9 @@ found bytes from start line passed begun some =
       unended = λ other. (passed.ended ∙ (begun.unended other).0, (begun.unended other).1);
     }
 
-pub passes : (bytes : List ℕ) (from start : ℕ) (line : Line) → PassesEmpty bytes from start → BeginsLine bytes start line →
-    line.stop ≤ line.start → PassesEmpty bytes from line.after
-passes bytes from start line passed begun none =
+pub line_passed : (bytes : List ℕ) (from start : ℕ) (line : Line) → PassesEmpty bytes from start →
+    BeginsLine bytes start line → line.stop ≤ line.start → PassesEmpty bytes from line.after
+line_passed bytes from start line passed begun none =
     let size : length (slice_range bytes line.start line.stop) ≡ 0 =
     omega (arith, length-between bytes line.start line.stop (omega arith)) in
     record {

@@ -18,7 +18,8 @@ negative_in most [] = None
 negative_in most (sign ∷ field) =
     if (sign == 45) && are_digits most field then Some (pos 0 -ℤ pos (digits_value field)) else None
 
--- the number that a field writes, where it writes one: 1 to so many decimal digits, after one minus where signs are allowed
+-- the number that a field writes, where it writes one: 1 to so many decimal digits, after one minus where signs are
+-- allowed
 unfoldable pub number_in : ℕ → Bool → List ℕ → Option ℤ
 number_in most signed field =
     if are_digits most field then Some (pos (digits_value field))

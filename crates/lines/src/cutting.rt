@@ -6,8 +6,8 @@ ghost use Rattle.std.specs.Str.Lines.{strip_carriage_return};
 ghost use Rattle.lines.specs.Lines.{FindsLine, fields_of, fields_after};
 ghost use Rattle.lines.specs.Pieces.{place_of, BeginsLine};
 
-/// A line of a text: from `start` up to `stop`, without the carriage return and the line feed at its end, behind which the text goes
-/// on at `after`.
+/// A line of a text: from `start` up to `stop`, without the carriage return and the line feed at its end, behind which
+/// the text goes on at `after`.
 #[derive(Clone, Copy, Debug, PartialEq, Eq)]
 pub struct Line {
     pub start: usize,
@@ -52,9 +52,9 @@ fn begun_line(bytes: &[u8], start: usize) -> Line
     }
 }
 
-/// The first line that is not empty in the bytes from `from` on. A line ends at a line feed, which belongs to no line, or at the end of
-/// the bytes; a carriage return at its end is left off. It takes no memory.
-#[tactic(auto, using(crate::proofs::Cuts::found, crate::proofs::Cuts::passes, crate::proofs::Cuts::no_line))]
+/// The first line that is not empty in the bytes from `from` on. A line ends at a line feed, which belongs to no line, or
+/// at the end of the bytes; a carriage return at its end is left off. It takes no memory.
+#[tactic(auto, using(crate::proofs::Cuts::line_found, crate::proofs::Cuts::line_passed, crate::proofs::Cuts::no_line))]
 pub fn line_at(bytes: &[u8], from: usize) -> Option<Line>
     requires { from ≤ length bytes.now }
     ensures { FindsLine result bytes.now from }

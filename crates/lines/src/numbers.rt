@@ -32,8 +32,8 @@ fn negative_at(field: &[u8], digits: u32) -> Option<i64>
     }
 }
 
-/// The number that a field writes: 1 to `digits` decimal digits and nothing else, after one `-` where it may be `signed`. Leading
-/// zeros and `-0` are read. `None` where it writes none.
+/// The number that a field writes: 1 to `digits` decimal digits and nothing else, after one `-` where it may be `signed`.
+/// Leading zeros and `-0` are read. `None` where it writes none.
 #[tactic(auto, unfolding(crate::specs::Numbers::number_in))]
 pub fn number_at(field: &[u8], digits: u32, signed: bool) -> Option<i64>
     requires some { 1 ≤ digits }

@@ -6,4 +6,5 @@ use Rattle.lines.proofs.numbers.count_at.Given as goal
 
 abbrev pub invariant-loop-byte : goal.invariant-loop-byte
 invariant-loop-byte l =
-    (l.value ≡ pos (digits_value (take l.byte-index l.field))) × (list_all is_ascii_digit (take l.byte-index l.field) ≡ true)
+    (l.value ≡ pos (digits_value (take l.byte-index l.field)))
+    × (list_all is_ascii_digit (take l.byte-index l.field) ≡ true)
