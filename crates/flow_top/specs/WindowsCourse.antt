@@ -1,6 +1,6 @@
 -- The course of `run` and of `direct`: the rows of the interval run of a plant, window by window, up to the first window in which a
 -- band is wider than was asked; and beside them, where windows are relaxed, a trace of the steps that settled each.
-use Rattle.std.specs.Prelude.{◌≡◌, ℕ, ◌*◌, ◌-◌, ◌<◌, ◌≤◌, min, List, [], map, slice_index_or, Option, Some, None}
+use Rattle.std.specs.Prelude.{◌≡◌, ℕ, ◌*◌, ◌<◌, ◌≤◌, List, [], map, slice_index_or, Option, Some, None}
 use Rattle.parts.specs.Parts.{FileParts}
 use Rattle.plant.specs.Rows.{streams_of_run}
 use Rattle.tables.specs.Output.{header, rows_of, channels}
@@ -11,6 +11,7 @@ use Rattle.report.specs.declared.fault.TopFault.TheVariants.{Wide}
 use Rattle.renewal.specs.Plan.{window_of}
 use Rattle.feeds.specs.Given.{run_plan}
 use Rattle.window_accept.specs.declared.wide.TooWide.{TooWide}
+use Rattle.window_accept.specs.Session.{ticks_from}
 use Rattle.window_accept.specs.Wide.{is_signal, AreNarrowEnough, IsFirstWide}
 use Rattle.flow_top.specs.declared.words.Command.{Command}
 use Rattle.flow_top.specs.declared.words.Command.TheVariants.{Run, Direct}
@@ -23,7 +24,7 @@ abbrev pub first_tick : FileParts → ℕ → ℕ
 first_tick parts w = w * parts.window
 
 abbrev pub ticks_in : FileParts → ℕ → ℕ
-ticks_in parts w = min parts.window (parts.ticks - first_tick parts w)
+ticks_in parts w = ticks_from parts (first_tick parts w)
 
 -- the rows of a window: those of its ticks of the interval run
 abbrev pub window_rows : FileParts → ℕ → List ℕ

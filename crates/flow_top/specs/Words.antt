@@ -31,17 +31,17 @@ options_in at request (name ∷ value ∷ rest) =
     else Err at
 
 -- what follows the command: the options of `run`, and nothing after another
-abbrev pub asked_of : Option Command → List (List ℕ) → Result Request ℕ
-asked_of None rest = Err 1
-asked_of (Some Run) rest = options_in 2 (record { command = Run; journal = None }) rest
-asked_of (Some command) [] = Ok (record { command = command; journal = None })
-asked_of (Some command) (word ∷ rest) = Err 2
+abbrev pub asked_after : Option Command → List (List ℕ) → Result Request ℕ
+asked_after None rest = Err 1
+asked_after (Some Run) rest = options_in 2 (record { command = Run; journal = None }) rest
+asked_after (Some command) [] = Ok (record { command = command; journal = None })
+asked_after (Some command) (word ∷ rest) = Err 2
 
 -- What the words ask for; or the position of the first word that does not fit, counted from 1, or one past the last where a word is
 -- missing.
 unfoldable pub request_in : List (List ℕ) → Result Request ℕ
 request_in [] = Err 1
-request_in (word ∷ rest) = asked_of (command_named word) rest
+request_in (word ∷ rest) = asked_after (command_named word) rest
 
 -- the command alone
 abbrev pub command_of : Result Request ℕ → Result Command ℕ

@@ -11,6 +11,8 @@ use Rattle.renewal.specs.Plan.{PlanOf, window_of}
 use Rattle.relax_core.specs.Board.{RowOf, BoardOf}
 use Rattle.relax_core.specs.Stepping.{reads_for, IsOutputOf, IsFirstMissing, Steps}
 use Rattle.relax_core.specs.declared.board.Stepped.{Stepped}
+use Rattle.relax_core.specs.declared.board.StepFault.{StepFault}
+use Rattle.relax_core.specs.declared.board.StepFault.TheVariants as step
 use Rattle.relax_core.specs.declared.made.AdoptFault.{AdoptFault}
 use Rattle.relax_core.specs.declared.made.AdoptFault.TheVariants as fault
 
@@ -43,6 +45,11 @@ meet_of board made =
 -- its number is that of the stream's next version
 abbrev pub IsNext : BoardOf → MadeOf → Type 0
 IsNext board made = made.number ≡ length (versions_of board.versions made.stream)
+
+-- why a version is not adopted whose step was not made
+abbrev pub adopt_fault : StepFault → AdoptFault
+adopt_fault (step.NoSuchVersion input wanted have) = fault.NoSuchVersion input wanted have
+adopt_fault step.NoMemory = fault.NoMemory
 
 -- The version is adopted by its step. Or it has another number; or a version that it names is not there; or its tube is not the
 -- meet, first at this place; or memory ran out. In all of these the board stays.

@@ -9,15 +9,8 @@ use Rattle.renewal.specs.Plan.{window_of}
 use Rattle.relax_core.specs.Adopting.{MadeOf, made_step, meet_of, IsNext}
 use Rattle.relax_core.specs.Board.{BoardOf}
 use Rattle.relax_core.specs.Stepping.{reads_for, IsFirstMissing}
-use Rattle.relax_core.specs.declared.board.StepFault.{StepFault}
-use Rattle.relax_core.specs.declared.board.StepFault.TheVariants as step
 use Rattle.relax_core.specs.declared.made.AdoptFault.{AdoptFault}
 use Rattle.relax_core.specs.declared.made.AdoptFault.TheVariants as fault
-
--- why a version is not adopted whose step was not made
-abbrev pub adopt_fault : StepFault → AdoptFault
-adopt_fault (step.NoSuchVersion input wanted have) = fault.NoSuchVersion input wanted have
-adopt_fault step.NoMemory = fault.NoMemory
 
 -- two tubes are one, or differ first at this place
 abbrev pub Compares : Result (Unit {0}) AdoptFault → Tube → Tube → Type 0

@@ -1,6 +1,6 @@
 //! Where the versions of a window come from that were made elsewhere.
 
-ghost use Rattle.std.specs.Prelude.{◌≡◌, ℕ, List, [], map, IfOk, OnErr};
+ghost use Rattle.std.specs.Prelude.{◌≡◌, ◌≤◌, ℕ, List, [], map, IfOk, OnErr};
 ghost use Rattle.std.specs.Thread.{IsSync};
 ghost use Rattle.flow_edge.specs.Faults.{Rose};
 ghost use Rattle.relax_core.specs.Board.{RowOf};
@@ -14,7 +14,7 @@ use std::thread::Threads;
 
 /// Makes versions of a window's streams, in any order and from any versions.
 pub trait Chaos {
-    /// How often it was asked.
+    /// How often it was asked: a count that never falls.
     ghost asked: { Self → ℕ };
 
     /// The rows of the versions that it answered last.
@@ -29,10 +29,11 @@ pub trait Chaos {
     ) -> Result<Vec<Made>, AllocError>
         requires { IsSync R.row }
         ensures asked { Rose (asked self.old) (asked self.new) }
+        ensures counted { asked self.old ≤ asked self.new }
         ensures rows { IfOk result (λ made. answered self.new ≡ map made_row made.items) }
         ensures none { OnErr result (answered self.new ≡ []) };
 
-    /// The rows of the versions that it answered last; none before its first call, and none after want of memory.
+    /// The rows of the versions that it answered last; none after want of memory.
     fn rows(&self) -> &[StepRow]
         ensures { result.now ≡ answered self.now };
 }

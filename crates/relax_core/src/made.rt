@@ -13,7 +13,7 @@ use thiserror::Error;
 use tubes::Tube;
 
 /// Version `number` of a stream, made from the version before it and the versions `refs` of what its unit reads, in the
-/// order of the input ports. Its stamp is greater than theirs.
+/// order of the input ports. Its stamp orders the versions of different streams; adoption does not read it.
 #[derive(Drop)]
 pub struct Made {
     pub stream: u32,
@@ -66,7 +66,7 @@ pub enum AdoptFault {
 
 impl From<StepFault> for AdoptFault {
     ghost use Rattle.std.specs.Prelude.{◌≡◌};
-    ghost use Rattle.relax_core.specs.Judging.{adopt_fault};
+    ghost use Rattle.relax_core.specs.Adopting.{adopt_fault};
 
     ghost from_gives = { λ fault made. made ≡ adopt_fault fault };
 

@@ -1,5 +1,4 @@
--- Words of the proofs: a reader of the contracts needs none of them.
--- The unit that is renewed.
+-- The unit of a plan that has a number.
 use Rattle.std.specs.Prelude.{◌≡◌, ◌<◌, ℕ, length}
 use Rattle.plant_units.specs.declared.units.Unit.{Unit}
 use Rattle.plant_units.specs.Units.{units_of, sheet_unit}
@@ -7,7 +6,7 @@ use Rattle.plant.specs.Sound.{IsSoundUnit}
 use Rattle.renewal.specs.Plan.{PlanOf, IsPlan}
 use Rattle.renewal.specs.Room.{planned}
 
--- the unit of the plan with this number
+-- the plan is one, and this is the unit of its plant with this number, as the plant was built
 pub record IsGiver (plan : PlanOf) (u : ℕ) (x : Unit) : Type 0 where
   pub plan_is : IsPlan plan
   pub there : u < length (units_of plan.parts)

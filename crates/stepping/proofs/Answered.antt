@@ -21,9 +21,9 @@ use Rattle.relax_core.specs.Settled.{WindowOf}
 use Rattle.window_accept.specs.declared.end.WindowEnd.{WindowEnd}
 use Rattle.window_accept.specs.declared.end.WindowEnd.TheVariants as end
 use Rattle.window_accept.specs.Session.{SessionOf, IsSession, IsGoingOn, Asks, next_plan, next_ticks}
-use Rattle.window_accept.specs.Session.{bands_of_plan, ended_by, NextWindow}
+use Rattle.window_accept.specs.Session.{bands_of_plan, end_by, ended_by, NextWindow}
 use Rattle.window_accept.specs.Session as session
-use Rattle.stepping.specs.Stepping.{plan_from, end_by, IsStepper, IsStepped, IsAccepted, IsWideEnd, IsEndOf}
+use Rattle.stepping.specs.Stepping.{plan_from, IsStepper, IsStepped, IsAccepted, IsWideEnd, IsEndOf}
 use Rattle.stepping.specs.Stepping.{stepped_on}
 
 -- before the first window
@@ -108,7 +108,7 @@ going-on held now last e k is none ne = record {
 module _ (now : SessionOf) (reader read : ReaderOf) (going : IsGoingOn now) where
   unfed-by : (fault : FeedFault) → Asks now reader read (Err fault) →
       NextWindow false now (ended_by now (end_by fault)) reader read (Err (end_by fault))
-  unfed-by feed.NoMemory asks = session.starved going.unended (inr (Err feed.NoMemory, asks)) refl
+  unfed-by feed.NoMemory asks = session.starved going (inr (Err feed.NoMemory, asks)) refl
   unfed-by feed.ReadFault asks = session.unfed feed.ReadFault going asks (λ e. cc) refl
   unfed-by (feed.BadRecord n) asks = session.unfed (feed.BadRecord n) going asks (λ e. cc) refl
   unfed-by (feed.UnknownPlace n) asks = session.unfed (feed.UnknownPlace n) going asks (λ e. cc) refl
@@ -136,7 +136,7 @@ module _ (now : SessionOf) (reader read : ReaderOf) (going : IsGoingOn now) wher
       NextWindow false now (ended_by now answered) reader read (Err answered)
   ended-by feeds answered asks h = elim h [
     | inl e ↦ subst (λ (w : WindowEnd). NextWindow false now (ended_by now w) reader read (Err w)) (sym e)
-        (session.starved going.unended (inr (Ok feeds, asks)) refl)
+        (session.starved going (inr (Ok feeds, asks)) refl)
     | inr wide ↦ wide-by feeds answered asks wide
   ]
 

@@ -14,10 +14,8 @@ use Rattle.plant.specs.Rows.{RowBands, IsRow, states_in, stream_in}
 use Rattle.renewal.specs.Plan.{PlanOf, IsPlan}
 use Rattle.renewal.specs.Carrying.{states_after}
 use Rattle.relax_core.specs.Settled.{WindowOf}
-use Rattle.feeds.specs.declared.reader.FeedFault.{FeedFault}
-use Rattle.feeds.specs.declared.reader.FeedFault.TheVariants as feed
 use Rattle.window_accept.specs.declared.end.WindowEnd.{WindowEnd}
-use Rattle.window_accept.specs.declared.end.WindowEnd.TheVariants.{Feed, Wide, NoMemory}
+use Rattle.window_accept.specs.declared.end.WindowEnd.TheVariants.{Wide, NoMemory}
 use Rattle.window_accept.specs.Session.{SessionOf, IsSession, HasRunOf, next_ticks, next_plan, bands_of_plan}
 use Rattle.window_accept.specs.Wide.{AreNarrowEnough, IsFirstWide}
 
@@ -25,11 +23,6 @@ use Rattle.window_accept.specs.Wide.{AreNarrowEnough, IsFirstWide}
 pub record IsStepper (session : SessionOf) (row : RowBands) : Type 0 where
   pub session_is : IsSession session
   pub row_is : IsRow session.parts row
-
--- it ends where there are no feeds
-abbrev pub end_by : FeedFault → WindowEnd
-end_by feed.NoMemory = NoMemory
-end_by fault = Feed fault
 
 -- a window of a plan was stepped, and a row stands at the tick after it
 pub record IsStepped (plan : PlanOf) (window : WindowOf) (row : RowBands) : Type 0 where

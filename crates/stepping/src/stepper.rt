@@ -1,7 +1,7 @@
 //! A plant that is stepped tick by tick.
 
 ghost use Rattle.std.specs.Prelude.{◌≡◌};
-ghost use Rattle.stepping.specs.Stepping.{end_by};
+ghost use Rattle.window_accept.specs.Session.{end_by};
 
 use crate::window::{narrow, step_window};
 use feeds::{FeedFault, FeedReader, given_feeds_can_be_planned};

@@ -19,15 +19,15 @@ use Rattle.window_accept.specs.declared.end.WindowEnd.TheVariants as end
 use Rattle.window_accept.specs.declared.settling.Settled.{Settled}
 use Rattle.window_accept.specs.Wide.{AreNarrowEnough, IsFirstWide}
 use Rattle.window_accept.specs.Session.{SessionOf, IsSession, HasRunOf, IsGoingOn, Asks, NextWindow, ended_by, next_ticks, next_plan}
-use Rattle.window_accept.specs.Session.{given, finished, unfed, wide, starved, bands_of_plan}
-use Rattle.window_accept.specs.Making.{end_by, IsSettledFor, IsPlanned, IsNext}
+use Rattle.window_accept.specs.Session.{end_by, given, finished, unfed, wide, starved, bands_of_plan}
+use Rattle.window_accept.specs.Making.{IsSettledFor, IsPlanned, IsNext}
 use Rattle.window_accept.proofs.Following.{gives-given, some-ticks, few-ticks, ticks-inside}
 
 -- a reader's fault ends the session
 pub fault-ends : (relaxes : Bool) (session : SessionOf) (reader read : ReaderOf) (fault : FeedFault) → IsGoingOn session →
     Asks session reader read (Err fault) →
     NextWindow relaxes session (ended_by session (end_by fault)) reader read (Err (end_by fault))
-fault-ends relaxes session reader read feed.NoMemory going asks = starved going.unended (inr (Err feed.NoMemory, asks)) refl
+fault-ends relaxes session reader read feed.NoMemory going asks = starved going (inr (Err feed.NoMemory, asks)) refl
 fault-ends relaxes session reader read (feed.BadRecord at) going asks = unfed (feed.BadRecord at) going asks (λ e. cc) refl
 fault-ends relaxes session reader read (feed.UnknownPlace at) going asks = unfed (feed.UnknownPlace at) going asks (λ e. cc) refl
 fault-ends relaxes session reader read (feed.Order at) going asks = unfed (feed.Order at) going asks (λ e. cc) refl
@@ -90,7 +90,7 @@ goes-on seen session ticks same unended e h = record {
 module _ (session : SessionOf) (reader read : ReaderOf) (plan : PlanOf) (going : IsGoingOn session)
     (planned : IsPlanned session reader read plan) where
   pub planned-starved : NextWindow true session (ended_by session end.NoMemory) reader read (Err end.NoMemory)
-  planned-starved = starved going.unended (inr (Ok planned.feeds, planned.asks)) refl
+  planned-starved = starved going (inr (Ok planned.feeds, planned.asks)) refl
 
   pub planned-wide : (place : TooWide) → IsFirstWide plan.parts (bands_of_plan plan) plan.first plan.ticks place →
       NextWindow true session (ended_by session (end.Wide place)) reader read (Err (end.Wide place))

@@ -2,22 +2,14 @@
 -- How a session's next window is made.
 use Rattle.std.specs.Prelude.{◌≡◌, true, List, Result, Ok, Err}
 use Rattle.relaxation.specs.Tube.{Tube}
-use Rattle.feeds.specs.declared.reader.FeedFault.{FeedFault}
-use Rattle.feeds.specs.declared.reader.FeedFault.TheVariants as feed
 use Rattle.feeds.specs.Reader.{ReaderOf}
 use Rattle.renewal.specs.Plan.{PlanOf, window_of, IsPlan}
 use Rattle.renewal.specs.Carrying.{states_after}
 use Rattle.relax_core.specs.Settled.{Settles}
 use Rattle.window_accept.specs.declared.end.WindowEnd.{WindowEnd}
-use Rattle.window_accept.specs.declared.end.WindowEnd.TheVariants as end
 use Rattle.window_accept.specs.declared.settling.Settled.{Settled}
 use Rattle.window_accept.specs.Session.{SessionOf, IsSession, Asks, HasRunOf, NextWindow, next_plan, next_ticks, moved_on}
 use Rattle.window_accept.specs.Session.{ended_by}
-
--- the end that a reader's fault is
-abbrev pub end_by : FeedFault → WindowEnd
-end_by feed.NoMemory = end.NoMemory
-end_by fault = end.Feed fault
 
 -- the window is the run of a plan, which its steps settle, and the states of the run are carried out of it
 pub record IsSettledFor (plan : PlanOf) (settled : Settled) : Type 0 where

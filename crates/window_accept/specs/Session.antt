@@ -29,13 +29,21 @@ pub record SessionOf : Type 0 where
   -- what it answers from now on, where it has ended
   pub end : Option WindowEnd
 
+-- the end that a reader's fault is
+abbrev pub end_by : FeedFault → WindowEnd
+end_by feed.NoMemory = NoMemory
+end_by fault = Feed fault
+
 -- before the first window
 abbrev pub opening_session : FileParts → SessionOf
 opening_session parts = record { parts = parts; tick = 0; carried = map opening_of (units_of parts); end = None }
 
--- the ticks of its next window: as many as the file says, and of the last one what is left of the run
+-- the ticks of a window from this one on: as many as the file says, and of the last window what is left of the run
+abbrev pub ticks_from : FileParts → ℕ → ℕ
+ticks_from parts tick = min parts.window (parts.ticks - tick)
+
 abbrev pub next_ticks : SessionOf → ℕ
-next_ticks session = min session.parts.window (session.parts.ticks - session.tick)
+next_ticks session = ticks_from session.parts session.tick
 
 -- the plan of its next window, with these tubes of the feeds
 abbrev pub next_plan : SessionOf → List Tube → PlanOf
@@ -112,7 +120,7 @@ pub data NextWindow (relaxes : Bool) (old new : SessionOf) (reader read : Reader
       IsFirstWide old.parts (bands_of_plan (next_plan old feeds)) old.tick (next_ticks old) place →
       new ≡ ended_by old (Wide place) → NextWindow relaxes old new reader read (Err (Wide place))
   -- memory ran out, before the reader was asked or after
-  starved : old.end ≡ None → (read ≡ reader) ⊎ ((answer : Result (List Tube) FeedFault) × Asks old reader read answer) →
+  starved : IsGoingOn old → (read ≡ reader) ⊎ ((answer : Result (List Tube) FeedFault) × Asks old reader read answer) →
       new ≡ ended_by old NoMemory → NextWindow relaxes old new reader read (Err NoMemory)
   -- the end that it answered before
   again : (end : WindowEnd) → old.end ≡ Some end → read ≡ reader → new ≡ old →

@@ -33,7 +33,7 @@ impl From<AllocError> for WindowEnd {
 
 impl From<FeedFault> for WindowEnd {
     ghost use Rattle.std.specs.Prelude.{◌≡◌};
-    ghost use Rattle.window_accept.specs.Making.{end_by};
+    ghost use Rattle.window_accept.specs.Session.{end_by};
 
     ghost from_gives = { λ fault end. end ≡ end_by fault };
 

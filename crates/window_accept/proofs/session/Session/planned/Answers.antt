@@ -15,7 +15,7 @@ returns-in_err-tubes-clause-plans g c =
 pub returns-in_err-carried-clause-plans : goal.returns-in_err-carried-clause-plans
 returns-in_err-carried-clause-plans g c =
     let p = err_from_is_err_and c.from_residual-in_err-carried.result c.from_residual-in_err-carried.ensures.1 in
-    rw (p.1, p.2) (starved c.requires.going.unended (inr (
+    rw (p.1, p.2) (starved c.requires.going (inr (
       Ok c.in_ok-tubes.tubes,
       asked-by _ c.args.self.now
           c.next_ticks-ticks.result c.args.feeds.now c.next_window.new.self _ c.self.view_is c.next_ticks-ticks.ensures
