@@ -1,0 +1,133 @@
+//! Sessions over the worked tank: windows that are relaxed from what was made elsewhere, and windows that are stepped.
+
+ghost use Rattle.std.specs.Prelude.{◌≡◌, map, IfOk};
+ghost use Rattle.relax_core.specs.Adopting.{made_row};
+
+use crate::renewals::{LEVEL, WORKED_TANK, has_rows};
+use crate::windows::plant_with_units;
+use feeds::FeedReader;
+use flow_edge::NoSource;
+use plant::Plant;
+use relax_core::{Board, Chaos, Made, NoChaos, Refs, StepRow, Window};
+use renewal::WindowPlan;
+use std::alloc::{AllocError, Global};
+use std::process::Abort;
+use std::test::Fail;
+use std::thread::Threads;
+use stepping::Stepper;
+use window_accept::{Relaxing, Session, Windows};
+
+/// Makes the first version of stream 3, the tank's level, from the tubes with which its inputs open.
+#[derive(Drop)]
+struct LevelFirst {
+    asked: u64,
+    rows: Vec<StepRow>,
+}
+
+/// The last version of stream 3 on a settled board of a plan; nothing where there is no such stream.
+fn level_of(alloc: Global, plan: &WindowPlan<'_>) -> Result<Vec<Made>, AllocError> {
+    let mut made = Vec::new(alloc);
+    if plan.plant().streams().len() == 4 {
+        let mut board = Board::open(alloc, plan)?;
+        board.settle(alloc)?;
+        made.push(Made {
+            stream: 3,
+            number: 1,
+            stamp: 1,
+            refs: Refs::of(&[0, 0]),
+            tube: board.last(3).copied(alloc)?,
+        })?;
+    }
+    Ok(made)
+}
+
+/// The rows of versions.
+fn rows_of(alloc: Global, made: &[Made]) -> Result<Vec<StepRow>, AllocError>
+    ensures { IfOk result (λ rows. rows.items ≡ map made_row made.now) }
+{
+    let mut rows = Vec::new(alloc);
+    for version in made {
+        rows.push(StepRow {
+            stream: version.stream,
+            version: version.number,
+            refs: Refs::of(version.refs.as_slice()),
+        })?;
+    }
+    Ok(rows)
+}
+
+impl Chaos for LevelFirst {
+    ghost asked = { λ chaos. chaos.asked };
+
+    ghost answered = { λ chaos. chaos.rows.items };
+
+    fn chaos<R: Threads + Sync>(
+        &mut self,
+        _rt: &R,
+        alloc: Global,
+        plan: &WindowPlan<'_>,
+    ) -> Result<Vec<Made>, AllocError> {
+        self.asked = self.asked.saturating_add(1);
+        self.rows = Vec::new(alloc);
+        let made = level_of(alloc, plan)?;
+        self.rows = rows_of(alloc, made.as_slice())?;
+        Ok(made)
+    }
+
+    fn rows(&self) -> &[StepRow] {
+        self.rows.as_slice()
+    }
+}
+
+/// The streams of a window's steps, each of which made version 1 from the opening tubes.
+fn has_steps<R: Abort>(rt: &R, window: &Window, streams: &[u32]) {
+    let steps = window.steps.as_slice();
+    assert_eq!(rt; steps.len(), streams.len());
+    for (number, step) in steps.iter().enumerate() {
+        assert!(rt; streams.get(number) == Some(&step.stream));
+        assert_eq!(rt; step.version, 1);
+        assert!(rt; step.refs.as_slice() == [0, 0].as_slice());
+    }
+}
+
+/// The first window of a plant, with the steps of these streams, has the tank's level.
+fn makes_first<R: Abort + Threads + Sync, W: Windows>(
+    rt: &R,
+    alloc: Global,
+    windows: &mut W,
+    streams: &[u32],
+) -> Result<(), Fail> {
+    let mut feeds = FeedReader::plain(alloc, windows.plant())?;
+    let Ok(window) = windows.next_window(rt, alloc, &mut feeds, &mut NoSource) else {
+        return Err("no window".into());
+    };
+    has_steps(rt, &window, streams);
+    let level = window.tubes.as_slice().get(3).ok_or("no level")?;
+    has_rows(rt, level, &LEVEL);
+    Ok(())
+}
+
+#[test]
+fn what_was_made_elsewhere_is_adopted_first(rt: HostRuntime) -> Result<(), Fail> {
+    let plant = plant_with_units(rt.alloc(), &[WORKED_TANK])?;
+    let chaos = LevelFirst {
+        asked: 0,
+        rows: Vec::new(rt.alloc()),
+    };
+    let mut windows = Relaxing::new(Session::open(rt.alloc(), plant)?, chaos);
+    makes_first(&rt, rt.alloc(), &mut windows, &[3, 2])
+}
+
+#[test]
+fn a_window_settles_by_itself(rt: HostRuntime) -> Result<(), Fail> {
+    let plant = plant_with_units(rt.alloc(), &[WORKED_TANK])?;
+    let mut windows = Relaxing::new(Session::open(rt.alloc(), plant)?, NoChaos::new());
+    makes_first(&rt, rt.alloc(), &mut windows, &[2, 3])
+}
+
+#[test]
+fn a_window_is_stepped(rt: HostRuntime) -> Result<(), Fail> {
+    let plant = plant_with_units(rt.alloc(), &[WORKED_TANK])?;
+    let mut windows = Stepper::open(rt.alloc(), plant)?;
+    makes_first(&rt, rt.alloc(), &mut windows, &[])
+}
