@@ -71,7 +71,7 @@ too-many k windows h l = omega arith
 not-more : (a b c : ℕ) → a ≤ b → b ≤ c → c < a → ⊥
 not-more a b c h l m = omega arith
 
-compare_le : (a b : ℕ) → (a ≤ b) ⊎ (b < a)
+pub compare_le : (a b : ℕ) → (a ≤ b) ⊎ (b < a)
 compare_le a b = search arith
 
 -- a window that is there begins before the last tick

@@ -10,4 +10,5 @@ pub mod Causes
 pub mod PlantRows
 pub mod Channels
 pub mod RunRows
+pub mod Stopping
 pub mod Texts

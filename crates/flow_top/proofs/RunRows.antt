@@ -30,7 +30,7 @@ rows-joined labels bands first (suc n) m =
     ∙ ap (λ f. (tick_rows labels bands first ++ rest) ++ rows_of labels bands f m) later
 
 -- how many ticks the first windows have
-one-more : (k window : ℕ) → suc k * window ≡ k * window + window
+pub one-more : (k window : ℕ) → suc k * window ≡ k * window + window
 one-more k window = grind arith
 
 ticks-so-far : (before window ticks : ℕ) → before < ticks →
@@ -41,7 +41,7 @@ whole : (ticks most : ℕ) → ticks ≤ most → min most ticks ≡ ticks
 whole ticks most h = omega arith
 
 -- where nothing stops them, the windows have all ticks
-counted : (command : Command) (parts : FileParts) (n : ℕ) (stop : Option Stop) → StopsAfter command parts n stop → stop ≡ None →
+pub counted : (command : Command) (parts : FileParts) (n : ℕ) (stop : Option Stop) → StopsAfter command parts n stop → stop ≡ None →
     IsWindowCount parts n
 counted command parts n stop (all count) e = count
 counted command parts n stop (wide place left first) e = absurd (cc e)

@@ -21,7 +21,7 @@ ghost use Rattle.relax_core.specs.Settled.{Settles};
 ghost use Rattle.flow_top.specs.WindowsCourse.{all_rows, traced_in, first_tick, ticks_in, wide_fault};
 ghost use Rattle.flow_top.specs.Faults.{stop_by};
 ghost use Rattle.window_accept.specs.declared.wide.TooWide.{TooWide};
-ghost use Rattle.window_accept.specs.Wide.{IsFirstWide};
+ghost use Rattle.window_accept.specs.Wide.{IsAmong, AreNarrowEnough, IsFirstWide};
 ghost use Rattle.report.specs.Output.{labels_of};
 ghost use Rattle.report.specs.Trace.{names_of, trace_rows, IsTrace};
 ghost use Rattle.report.specs.Ranks.{rank_rows};
@@ -48,12 +48,18 @@ pub fn courses_print_the_run()
     ensures run { (words : List (List ℕ)) (plant : SourceUse) (at : IsAtWork words plant) → WritesRun at.command →
         at.course.stop ≡ None → text_of at.course ≡ header ++ all_rows at.parts }
 
-    // A stop is the first band of the window after them that is wider than was asked.
+    // A stop is the first band of the run that is wider than was asked, and lies in the window after them.
     ensures wide { (words : List (List ℕ)) (plant : SourceUse) (at : IsAtWork words plant) (stop : Stop) →
         at.course.stop ≡ Some stop →
         (place : TooWide) × (stop ≡ stop_by at.command (wide_fault at.parts place))
-        × IsFirstWide at.parts (streams_of_run at.parts) (first_tick at.parts at.course.windows)
-        (ticks_in at.parts at.course.windows) place }
+        × IsAmong (first_tick at.parts at.course.windows) (ticks_in at.parts at.course.windows) place
+        × IsFirstWide at.parts (streams_of_run at.parts) 0 at.parts.ticks place }
+
+    // Where nothing stops it, no band of the run is wider than was asked.
+    ensures narrow { (words : List (List ℕ)) (plant : SourceUse) (at : IsAtWork words plant) → WritesRun at.command →
+        at.course.stop ≡ None → AreNarrowEnough at.parts (streams_of_run at.parts) 0 at.parts.ticks }
+
+    // `check` prints a header and one row for each unit.
     ensures check { (words : List (List ℕ)) (plant : SourceUse) (at : IsAtWork words plant) → at.command ≡ Command.Check →
         text_of at.course ≡ rank_header ++ rank_rows at.parts }
 
@@ -130,9 +136,9 @@ pub fn commands_have_one_course()
     wide_places_are_found();
 }
 
-/// A legal trace of a run leads from the opening tubes to what is printed: whatever steps it lists for a window, the last versions
-/// that they leave are the bands of the interval run at the window's ticks, and in a legal text each window has such steps. `run`
-/// writes a trace, and `direct` and `check` none.
+/// A legal trace of a run leads from the opening tubes to what is printed: whatever steps settle a window, the last versions that
+/// they leave are the bands of the interval run at the window's ticks, and a legal text lists for each window such steps, the same
+/// for all streams. `run` writes a trace, and `direct` and `check` none.
 pub fn traces_lead_to_the_run()
     ensures run { (words : List (List ℕ)) (plant : SourceUse) (at : IsAtWork words plant) → at.command ≡ Command.Run →
         at.course.trace ≡ Some (traced_in at.parts) }
@@ -146,11 +152,13 @@ pub fn traces_lead_to_the_run()
         last_of (reached ((traced_in at.parts).window w) (map step_in rows)) s
         ≡ tube_of (λ t. streams_of_run at.parts (first_tick at.parts w + t) s) (ticks_in at.parts w) }
     ensures listed { (words : List (List ℕ)) (plant : SourceUse) (at : IsAtWork words plant) → at.command ≡ Command.Run →
-        (k w s : ℕ) (text : List ℕ) → k ≤ at.course.windows → w < k →
-        s < length (streams_of at.parts) → IsTrace (names_of at.parts) (traced_in at.parts).window k text →
+        (k w : ℕ) (text : List ℕ) → k ≤ at.course.windows → w < k →
+        IsTrace (names_of at.parts) (traced_in at.parts).window k text →
         (before : List ℕ) × (rows : List RowOf) × (after : List ℕ)
         × (text ≡ before ++ (trace_rows (names_of at.parts) w rows ++ after))
-        × (last_of (reached ((traced_in at.parts).window w) (map step_in rows)) s
+        × Settles ((traced_in at.parts).window w) rows
+        × ((s : ℕ) → s < length (streams_of at.parts) →
+        last_of (reached ((traced_in at.parts).window w) (map step_in rows)) s
         ≡ tube_of (λ t. streams_of_run at.parts (first_tick at.parts w + t) s) (ticks_in at.parts w)) }
 {
     traces_settle_their_windows();

@@ -30,8 +30,9 @@ use window_accept::first_wide_places_are_one;
 /// relaxing each window, and gives `trace` the steps that narrowed; `direct` gives the same by stepping the plant; `check` gives its
 /// units with their kinds and ranks. `extra` and `gate` are not used yet.
 ///
-/// Every answer but want of memory has its cause: refused words, a plant text that is refused, or a device whose count
-/// of faults rose in this call. The clauses below say so status by status; all but the last follow from the last, `stands`.
+/// Every answer but want of memory has its cause: refused words, a plant text that is refused, a band that is wider than
+/// was asked, or a device whose count of faults rose in this call. The clauses below say so status by status; all but the
+/// last follow from the last, `stands`.
 pub fn flow_top<R, S, E, O, T, F, G>(
     rt: &R,
     alloc: Global,

@@ -4,6 +4,7 @@ use Rattle.flow_top.specs.Courses.{IsCourse}
 use Rattle.flow_top.proofs.Channels.{run-channels}
 use Rattle.flow_top.proofs.Courses.{check-printed, course-stops}
 use Rattle.flow_top.proofs.RunRows.{work-windows, work-text}
+use Rattle.flow_top.proofs.Stopping.{run-narrow, run-first}
 use Rattle.flow_top.proofs.laws.courses_print_the_run.Goals as goal
 
 pub returns-clause-windows : goal.returns-clause-windows
@@ -14,7 +15,15 @@ returns-clause-run c words plant at writes whole = work-text at.command at.parts
 
 pub returns-clause-wide : goal.returns-clause-wide
 returns-clause-wide c words plant at stop e =
-    let stops = course-stops at.command at.parts at.course stop at.work.follows e in (stops.place, stops.stop_is, stops.first)
+    let stops = course-stops at.command at.parts at.course stop at.work.follows e in (
+      stops.place,
+      stops.stop_is,
+      stops.first.among,
+      run-first at.command at.parts at.course stop at.work.follows e stops.place stops.first,
+    )
+
+pub returns-clause-narrow : goal.returns-clause-narrow
+returns-clause-narrow c words plant at writes whole = run-narrow at.command at.parts at.course writes at.work.follows whole
 
 pub returns-clause-check : goal.returns-clause-check
 returns-clause-check c words plant at check =

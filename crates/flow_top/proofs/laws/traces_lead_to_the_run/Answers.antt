@@ -26,7 +26,7 @@ returns-clause-leads c words plant at run w s l m rows settles =
     ∙ laws.run parts first n s at.work.plant inside.0 inside.1 inside.2 m
 
 pub returns-clause-listed : goal.returns-clause-listed
-returns-clause-listed c words plant at run k w s text few l m legal =
+returns-clause-listed c words plant at run k w text few l legal =
     let parts = at.parts in
     let traced = traced_in parts in
     let stands = c.traces_settle_their_windows.ensures (names_of parts) traced.window k text legal w l in (
@@ -34,5 +34,6 @@ returns-clause-listed c words plant at run k w s text few l m legal =
       stands.1,
       stands.2,
       stands.4,
-      returns-clause-leads c words plant at run w s (omega (arith, l, few)) m stands.1 stands.3,
+      stands.3,
+      λ s m. returns-clause-leads c words plant at run w s (omega (arith, l, few)) m stands.1 stands.3,
     )
