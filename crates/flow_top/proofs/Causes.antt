@@ -28,7 +28,7 @@ use Rattle.flow_top.specs.Uses.{SourceUse, SinkUse, Sinks, IsUnwritten, AreUnwri
 use Rattle.flow_top.specs.Ended.{Ended, misread, asked, CommandEnded, WorkEnded, course_end, SaysParts, IsRefused, TraceStood, Stood, BrokeOff}
 use Rattle.flow_top.specs.Ended as ended
 use Rattle.flow_top.specs.Stands.{Said, SaidMemory, SaidStop}
-use Rattle.flow_top.specs.Causes.{IsEndOn, refusal, course, IsAtWork, WroteSome, WroteFront, SaysRefusal, SaysStop, CauseSaid, Cause, AnswersOr, AnswersUnlessRead, AnswersUnlessFailed}
+use Rattle.flow_top.specs.Causes.{IsEndOn, refusal, course, IsAtWork, WroteSome, WroteFront, SaysRefusal, CauseSaid, Cause, AnswersOr, AnswersUnlessRead, AnswersUnlessFailed}
 use Rattle.flow_top.proofs.Judging.{judgement-unique}
 use Rattle.flow_top.specs.WindowsCourse.{wide_fault}
 use Rattle.flow_top.proofs.Courses.{AreOne, AreFound, work-agrees, course-stops, work-exists, wide_status}

@@ -1,7 +1,6 @@
 -- The courses of the commands.
-use Rattle.std.proofs.Common.{◌≡◌, ◌≢◌, ◌⊎◌, inl, inr, ℕ, zero, suc, ◌+◌, ◌-◌, ◌*◌, ◌<◌, ◌≤◌, ◌++◌, refl, sym, ap, subst, ◌∙◌}
-use Rattle.std.proofs.Common.{Bool, true, false, List, [], ◌∷◌, Option, Some, None, arith}
-use Rattle.std.proofs.lemmas.Bool.{cases_lt}
+use Rattle.std.proofs.Common.{◌≡◌, ◌≢◌, ◌⊎◌, inl, inr, ℕ, zero, suc, ◌+◌, ◌*◌, ◌<◌, ◌≤◌, ◌++◌, refl, sym, ap, subst, ◌∙◌}
+use Rattle.std.proofs.Common.{List, [], ◌∷◌, Option, Some, None, arith}
 use Rattle.quant.specs.Interval.{Interval}
 use Rattle.parts.specs.Parts.{FileParts}
 use Rattle.plant.specs.Rows.{streams_of_run}
@@ -16,7 +15,7 @@ use Rattle.flow_top.specs.declared.words.Command.{Command}
 use Rattle.flow_top.specs.declared.words.Command.TheVariants.{Run, Direct, Check}
 use Rattle.flow_top.specs.Course.{Traced, Course, written, text_of}
 use Rattle.flow_top.specs.Courses.{IsCourse, IsWork}
-use Rattle.flow_top.specs.WindowsCourse.{window_rows, traced_in, first_tick, ticks_in, wide_fault, IsWindowCount, IsNarrowEnough, StopsAfter, all, wide, WritesWindows}
+use Rattle.flow_top.specs.WindowsCourse.{window_rows, traced_in, first_tick, ticks_in, wide_fault, IsNarrowEnough, StopsAfter, all, wide, WritesWindows}
 use Rattle.flow_top.specs.CheckCourse.{IsCheckCourse}
 use Rattle.report.specs.Ranks.{rank_rows}
 

@@ -1,18 +1,16 @@
 -- How the work on a plant ends, from what its pieces gave.
-use Rattle.std.proofs.Common.{◌≡◌, ◌≢◌, ◌⊎◌, inl, inr, refl, sym, ap, ◌∙◌, subst, ℕ, ◌<◌, ◌≤◌, List, [], ◌++◌, Option, Some, None}
+use Rattle.std.proofs.Common.{◌≡◌, ◌≢◌, refl, sym, ap, ◌∙◌, subst, ℕ, ◌<◌, ◌≤◌, List, [], ◌++◌, Option, None}
 use Rattle.std.proofs.Common.{Result, Ok, Err, IsErrAnd, arith}
 use Rattle.flow_edge.specs.Sink.{Gives, GivesFront}
 use Rattle.parts.specs.Parts.{FileParts}
-use Rattle.plant.specs.Sound.{IsPlant}
 use Rattle.flow_top.specs.declared.words.Command.{Command}
 use Rattle.flow_top.specs.declared.fault.End.{End}
 use Rattle.flow_top.specs.declared.fault.End.TheVariants.{Stopped, NoMemory}
 use Rattle.report.specs.declared.fault.TopFault.TheVariants.{WriteOut}
-use Rattle.flow_top.specs.Faults.{stop_by}
 use Rattle.flow_top.specs.Course.{Course, text_of}
 use Rattle.flow_top.specs.Courses.{IsWork}
 use Rattle.flow_top.specs.Uses.{SourceUse, SinkUse, Sinks, IsUnwritten, AreUnwritten}
-use Rattle.flow_top.specs.Ended.{TraceStood, TraceFront, output, WorkEnded, through, broken, early, within, course_end, CommandEnded, refused, failed, starved}
+use Rattle.flow_top.specs.Ended.{TraceStood, TraceFront, output, WorkEnded, through, broken, within, course_end, CommandEnded, refused, failed, starved}
 use Rattle.flow_top.specs.Steps.{PieceEnded, PlantEnded, refusal, failure}
 use Rattle.flow_top.proofs.Writes.{front-longer, front-after, both-given, rose-later}
 

@@ -1,13 +1,11 @@
 -- How writing the windows of a run ends, from what their texts gave.
-use Rattle.std.proofs.Common.{◌≡◌, ◌≢◌, ◌⊎◌, inl, inr, refl, sym, ap, ◌∙◌, subst, ℕ, suc, ◌+◌, ◌-◌, ◌*◌, ◌<◌, ◌≤◌, min, Bool, true, false}
+use Rattle.std.proofs.Common.{◌≡◌, ◌⊎◌, inl, inr, refl, sym, ap, ◌∙◌, subst, ℕ, suc, ◌+◌, ◌<◌, ◌≤◌, min, Bool, true, false}
 use Rattle.std.proofs.Common.{List, Option, Some, None, Result, Ok, Err, IsErrAnd, arith}
 use Rattle.parts.specs.Parts.{FileParts}
 use Rattle.plant.specs.Rows.{streams_of_run}
 use Rattle.plant.specs.Sound.{IsPlant}
 use Rattle.tables.specs.Output.{header}
-use Rattle.tables.specs.Steps.{trace_header}
 use Rattle.report.specs.declared.fault.TopFault.{TopFault}
-use Rattle.window_accept.specs.declared.wide.TooWide.{TooWide}
 use Rattle.window_accept.specs.Wide.{IsFirstWide}
 use Rattle.flow_top.specs.declared.words.Command.{Command}
 use Rattle.flow_top.specs.declared.words.Command.TheVariants.{Run, Direct, Check}
@@ -15,9 +13,9 @@ use Rattle.flow_top.specs.declared.fault.Stop.{Stop}
 use Rattle.flow_top.specs.declared.fault.End.{End}
 use Rattle.flow_top.specs.declared.fault.End.TheVariants.{Stopped, NoMemory}
 use Rattle.flow_top.specs.Faults.{stop_by}
-use Rattle.flow_top.specs.Course.{Traced, Course, written}
+use Rattle.flow_top.specs.Course.{Traced, Course}
 use Rattle.flow_top.specs.Courses.{IsCourse, IsWork}
-use Rattle.flow_top.specs.WindowsCourse.{window_rows, traced_in, first_tick, ticks_in, wide_fault, IsWindowCount, IsNarrowEnough, StopsAfter, all, wide, WritesWindows}
+use Rattle.flow_top.specs.WindowsCourse.{traced_in, first_tick, ticks_in, wide_fault, IsWindowCount, IsNarrowEnough, StopsAfter, all, wide, WritesWindows}
 use Rattle.flow_top.specs.Uses.{Sinks}
 use Rattle.flow_top.specs.Ended.{WorkEnded, through, broken, within, course_end, Stood, BrokeOff}
 use Rattle.flow_top.specs.Steps.{PairEnded, AreCounted, header_of_steps, WritesBy, AreSteps, AreTexts, IsAlong, HasTexts, IsStoppedAt, TextsEnded}

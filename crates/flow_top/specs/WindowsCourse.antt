@@ -1,6 +1,6 @@
 -- The course of `run` and of `direct`: the rows of the interval run of a plant, window by window, up to the first window in which a
 -- band is wider than was asked; and beside them, where windows are relaxed, a trace of the steps that settled each.
-use Rattle.std.specs.Prelude.{◌≡◌, ℕ, ◌*◌, ◌<◌, ◌≤◌, List, [], map, slice_index_or, Option, Some, None}
+use Rattle.std.specs.Prelude.{◌≡◌, ℕ, ◌*◌, ◌<◌, ◌≤◌, List, [], slice_index_or, Option, Some, None}
 use Rattle.parts.specs.Parts.{FileParts}
 use Rattle.plant.specs.Rows.{streams_of_run}
 use Rattle.tables.specs.Output.{header, rows_of, channels}

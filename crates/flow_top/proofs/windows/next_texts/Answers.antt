@@ -1,11 +1,11 @@
-use Rattle.std.proofs.Common.{◌≡◌, ◌∙◌, ◌<◌, ◌+◌, ◌≤◌, min, ℕ, sym, ap, subst, arith, refl, length, Err}
+use Rattle.std.proofs.Common.{◌≡◌, ◌∙◌, ◌<◌, ◌+◌, min, sym, ap, subst, arith, length, Err}
 use Rattle.parts.specs.Parts.{FileParts}
 use Rattle.plant_streams.specs.Streams.{streams_of}
 use Rattle.plant.specs.Rows.{streams_of_run}
 use Rattle.tables.specs.Output.{channels}
 use Rattle.window_accept.specs.Wide.{AreNarrowEnough, is_signal}
 use Rattle.window_accept.specs.declared.end.WindowEnd.TheVariants.{Wide}
-use Rattle.window_accept.specs.Session.{SessionOf, NextWindow}
+use Rattle.window_accept.specs.Session.{NextWindow}
 use Rattle.flow_top.specs.WindowsCourse.{first_tick, ticks_in}
 use Rattle.flow_top.specs.Steps.{AreTexts}
 use Rattle.flow_top.proofs.Texts.{at-window, at-next, run-here, made-here, same-kind, named-channel, stopped-at, same-parts}

@@ -1,4 +1,4 @@
-use Rattle.std.proofs.Common.{◌≡◌, ◌∙◌, ◌<◌, sym, ap, subst, refl, arith}
+use Rattle.std.proofs.Common.{◌∙◌, ◌<◌, sym, subst, refl, arith}
 use Rattle.parts.specs.Parts.{FileParts}
 use Rattle.flow_top.specs.WindowsCourse.{first_tick, IsWindowCount}
 use Rattle.flow_top.proofs.Written.{open-broke, open-written, texts-broke, pair-stopped, pair-written, all-written, left-over, opening-along}
