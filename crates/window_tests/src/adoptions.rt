@@ -82,7 +82,10 @@ const CASES: [Case; 6] = [
                 lo: 0,
                 hi: 2_000_000,
             },
-            here: Band::point(1_000),
+            here: Band {
+                lo: 1_000,
+                hi: 1_000,
+            },
         }),
     ),
     (3, 1, [0, 0], Has::Renewal, Ok(Stepped::Narrowed { number: 1 })),
