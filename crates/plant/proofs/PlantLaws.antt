@@ -1,7 +1,7 @@
 -- What the checks of a plant's parts give, and what a plant's parts are.
 use Rattle.std.proofs.Common.{◌≡◌, ◌∙◌, ◌<◌, ℕ, List, [], Ok, length, get_or, refl, suc, sym, ap, subst}
 use Rattle.std.specs.Prelude.{slice_index, slice_index_or}
-use Rattle.quant.specs.Interval.{AllInside}
+use Rattle.quant.specs.Interval.{Interval, AllInside}
 use Rattle.flowsheet.specs.Plant as sheet
 use Rattle.flowsheet.specs.Plant.{IsRanked}
 use Rattle.flowsheet.specs.Limited.{IsLimited, AreBands}
@@ -98,15 +98,16 @@ pub port-limits : (parts : FileParts) (u p s : ℕ) → IsPlant parts → IsOutp
 port-limits parts u p s plant out =
     source-limits parts plant s u p (subst (IsSource parts s) out.1 ((plant-sound parts plant).sources s out.0))
 
-pub opening-states : (parts : FileParts) → IsPlant parts → HasStatesOf parts 0 (opening_row parts)
-opening-states parts plant u l = refl
+pub opening-states : (parts : FileParts) (given : ℕ → ℕ → List Interval) → IsPlant parts →
+    HasStatesOf parts given 0 (opening_row parts)
+opening-states parts given plant u l = refl
 
-pub step-streams : (parts : FileParts) (tick : ℕ) (before after : RowBands) → IsPlant parts →
-    HasStatesOf parts tick before → HasFeedsOf parts tick before → IsStep parts before after →
-    HasStreamsOf parts tick after
-step-streams parts tick before after plant = next-streams parts tick before after (parts-ranked parts plant)
+pub step-streams : (parts : FileParts) (given : ℕ → ℕ → List Interval) (tick : ℕ) (before after : RowBands) →
+    IsPlant parts → HasStatesOf parts given tick before → HasFeedsOf parts given tick before → IsStep parts before after →
+    HasStreamsOf parts given tick after
+step-streams parts given tick before after plant = next-streams parts given tick before after (parts-ranked parts plant)
 
-pub step-states : (parts : FileParts) (tick : ℕ) (before after : RowBands) → IsPlant parts →
-    HasStatesOf parts tick before → HasFeedsOf parts tick before → IsStep parts before after →
-    HasStatesOf parts (suc tick) after
-step-states parts tick before after plant = next-states parts tick before after (parts-ranked parts plant)
+pub step-states : (parts : FileParts) (given : ℕ → ℕ → List Interval) (tick : ℕ) (before after : RowBands) →
+    IsPlant parts → HasStatesOf parts given tick before → HasFeedsOf parts given tick before → IsStep parts before after →
+    HasStatesOf parts given (suc tick) after
+step-states parts given tick before after plant = next-states parts given tick before after (parts-ranked parts plant)

@@ -7,7 +7,6 @@ use Rattle.flowsheet.specs.Reading.{on_bands, inputs_of, stepped}
 use Rattle.flowsheet.specs.Run.{from_origin, streams_below, streams_at}
 use Rattle.flowsheet.proofs.Readings.{same-kept, inputs-kept, shown-kept, stepped-kept}
 use Rattle.parts.specs.Parts.{FileParts}
-use Rattle.parts.specs.Given.{given_bands}
 use Rattle.plant_streams.specs.Streams.{streams_of}
 use Rattle.plant_units.specs.Units.{units_of, sheet_unit}
 use Rattle.plant.specs.PlantOf.{origin_in, plant_of}
@@ -60,20 +59,20 @@ module _ (parts : FileParts) (ranked : IsRanked (plant_of parts)) (feeds states 
       (inputs-kept (same-kept (on_bands (plant_of parts))) (unit_at (plant_of parts) u) _ _
       (λ q c. streams-same q (reads-there parts ranked u q l c)))
 
-pub next-streams : (parts : FileParts) (tick : ℕ) (before after : RowBands) → IsRanked (plant_of parts) →
-    HasStatesOf parts tick before → HasFeedsOf parts tick before → IsStep parts before after →
-    HasStreamsOf parts tick after
-next-streams parts tick before after ranked held fed step s l =
+pub next-streams : (parts : FileParts) (given : ℕ → ℕ → List Interval) (tick : ℕ) (before after : RowBands) →
+    IsRanked (plant_of parts) → HasStatesOf parts given tick before → HasFeedsOf parts given tick before → IsStep parts before after →
+    HasStreamsOf parts given tick after
+next-streams parts given tick before after ranked held fed step s l =
     step.streams s l
-    ∙ streams-same parts ranked (stream_in before) (states_in before) (given_bands parts tick)
-    (states_of_run parts tick) fed
+    ∙ streams-same parts ranked (stream_in before) (states_in before) (given tick)
+    (states_of_run parts given tick) fed
     held s l
 
-pub next-states : (parts : FileParts) (tick : ℕ) (before after : RowBands) → IsRanked (plant_of parts) →
-    HasStatesOf parts tick before → HasFeedsOf parts tick before → IsStep parts before after →
-    HasStatesOf parts (suc tick) after
-next-states parts tick before after ranked held fed step u l =
+pub next-states : (parts : FileParts) (given : ℕ → ℕ → List Interval) (tick : ℕ) (before after : RowBands) →
+    IsRanked (plant_of parts) → HasStatesOf parts given tick before → HasFeedsOf parts given tick before → IsStep parts before after →
+    HasStatesOf parts given (suc tick) after
+next-states parts given tick before after ranked held fed step u l =
     step.states u l
-    ∙ stepped-same parts ranked (stream_in before) (states_in before) (given_bands parts tick)
-    (states_of_run parts tick) fed
+    ∙ stepped-same parts ranked (stream_in before) (states_in before) (given tick)
+    (states_of_run parts given tick) fed
     held u l

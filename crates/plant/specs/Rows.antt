@@ -5,7 +5,6 @@ use Rattle.flowsheet.specs.Plant.{unit_at}
 use Rattle.flowsheet.specs.Reading.{on_bands, inputs_of, stepped}
 use Rattle.flowsheet.specs.Run.{streams_at, run_states, run_streams}
 use Rattle.parts.specs.Parts.{FileParts}
-use Rattle.parts.specs.Given.{given_bands}
 use Rattle.plant_streams.specs.Streams.{streams_of}
 use Rattle.plant_streams.specs.Limits.{all_limits, limits_at}
 use Rattle.plant_units.specs.Units.{units_of, opening_of}
@@ -55,19 +54,21 @@ pub record IsStep (parts : FileParts) (before after : RowBands) : Type 0 where
       (inputs_of (unit_at (plant_of parts) u)
       (streams_at (on_bands (plant_of parts)) (plant_of parts) (stream_in before) (states_in before)))
 
--- the interval run of the parts: the bands of each unit's states and of each stream at a tick
-abbrev pub states_of_run : FileParts → ℕ → ℕ → List Interval
-states_of_run parts = run_states (on_bands (plant_of parts)) (plant_of parts) (carried_of parts) (given_bands parts)
+-- the interval run of the parts where these bands are given to the feeds, by tick and feed: the bands of each unit's states and of each
+-- stream at a tick
+abbrev pub states_of_run : FileParts → (ℕ → ℕ → List Interval) → ℕ → ℕ → List Interval
+states_of_run parts given = run_states (on_bands (plant_of parts)) (plant_of parts) (carried_of parts) given
 
-abbrev pub streams_of_run : FileParts → ℕ → ℕ → List Interval
-streams_of_run parts = run_streams (on_bands (plant_of parts)) (plant_of parts) (carried_of parts) (given_bands parts)
+abbrev pub streams_of_run : FileParts → (ℕ → ℕ → List Interval) → ℕ → ℕ → List Interval
+streams_of_run parts given = run_streams (on_bands (plant_of parts)) (plant_of parts) (carried_of parts) given
 
 -- the row's states are the run's at this tick, and its feeds the given bands
-abbrev pub HasStatesOf : FileParts → ℕ → RowBands → Type 0
-HasStatesOf parts tick row = (u : ℕ) → u < length (units_of parts) → states_in row u ≡ states_of_run parts tick u
+abbrev pub HasStatesOf : FileParts → (ℕ → ℕ → List Interval) → ℕ → RowBands → Type 0
+HasStatesOf parts given tick row = (u : ℕ) → u < length (units_of parts) → states_in row u ≡ states_of_run parts given tick u
 
-abbrev pub HasFeedsOf : FileParts → ℕ → RowBands → Type 0
-HasFeedsOf parts tick row = (f : ℕ) → f < length parts.feeds → stream_in row f ≡ given_bands parts tick f
+abbrev pub HasFeedsOf : FileParts → (ℕ → ℕ → List Interval) → ℕ → RowBands → Type 0
+HasFeedsOf parts given tick row = (f : ℕ) → f < length parts.feeds → stream_in row f ≡ given tick f
 
-abbrev pub HasStreamsOf : FileParts → ℕ → RowBands → Type 0
-HasStreamsOf parts tick row = (s : ℕ) → s < length (streams_of parts) → stream_in row s ≡ streams_of_run parts tick s
+abbrev pub HasStreamsOf : FileParts → (ℕ → ℕ → List Interval) → ℕ → RowBands → Type 0
+HasStreamsOf parts given tick row =
+    (s : ℕ) → s < length (streams_of parts) → stream_in row s ≡ streams_of_run parts given tick s

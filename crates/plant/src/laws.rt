@@ -1,6 +1,6 @@
-ghost use Rattle.std.specs.Prelude.{◌≡◌, ◌<◌, ℕ, suc, Ok, [], length, slice_index_or};
+ghost use Rattle.std.specs.Prelude.{◌≡◌, ◌<◌, ℕ, suc, Ok, List, [], length, slice_index_or};
 ghost use Rattle.std.specs.List.{AllByRecursion};
-ghost use Rattle.quant.specs.Interval.{AllInside};
+ghost use Rattle.quant.specs.Interval.{Interval, AllInside};
 ghost use Rattle.flowsheet.specs.Plant.{IsRanked, unit_at};
 ghost use Rattle.flowsheet.specs.Limited.{AreBands, IsLimited};
 ghost use Rattle.parts.specs.Parts.{FileParts};
@@ -49,13 +49,15 @@ pub fn outputs_share_limits_with_streams()
         slice_index_or (unit_at (plant_of parts) u).output_limits p [] ≡ limits_at parts s }
 {}
 
-/// Steps that begin with the opening states, each from the bands that are given at its tick, make the interval run.
+/// Steps that begin with the opening states, each from the bands that are given to the feeds at its tick, make the interval run,
+/// whatever these bands are.
 pub fn direct_steps_make_the_run()
-    ensures opening { (parts : FileParts) → IsPlant parts → HasStatesOf parts 0 (opening_row parts) }
-    ensures streams { (parts : FileParts) (tick : ℕ) (before after : RowBands) → IsPlant parts →
-        HasStatesOf parts tick before → HasFeedsOf parts tick before → IsStep parts before after →
-        HasStreamsOf parts tick after }
-    ensures states { (parts : FileParts) (tick : ℕ) (before after : RowBands) → IsPlant parts →
-        HasStatesOf parts tick before → HasFeedsOf parts tick before → IsStep parts before after →
-        HasStatesOf parts (suc tick) after }
+    ensures opening { (parts : FileParts) (given : ℕ → ℕ → List Interval) → IsPlant parts →
+        HasStatesOf parts given 0 (opening_row parts) }
+    ensures streams { (parts : FileParts) (given : ℕ → ℕ → List Interval) (tick : ℕ) (before after : RowBands) →
+        IsPlant parts → HasStatesOf parts given tick before → HasFeedsOf parts given tick before → IsStep parts before after →
+        HasStreamsOf parts given tick after }
+    ensures states { (parts : FileParts) (given : ℕ → ℕ → List Interval) (tick : ℕ) (before after : RowBands) →
+        IsPlant parts → HasStatesOf parts given tick before → HasFeedsOf parts given tick before → IsStep parts before after →
+        HasStatesOf parts given (suc tick) after }
 {}

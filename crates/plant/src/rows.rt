@@ -1,6 +1,7 @@
 ghost use Rattle.std.specs.Prelude.{◌≡◌, ◌<◌, length, slice_index_or, IfOk, pos};
 ghost use Rattle.quant.specs.Interval.{IsInside, AllInside, point};
 ghost use Rattle.parts.specs.Parts.{FileParts};
+ghost use Rattle.parts.specs.Given.{given_bands};
 ghost use Rattle.plant.specs.Rows.{stream_in, set_band, give_bands, opening_row, IsRow, IsStep, HasFeedsOf};
 ghost use Rattle.plant_streams.specs.Limits.{limit_at, limits_at};
 
@@ -103,7 +104,7 @@ impl Plant {
     pub fn set_given(&self, row: &mut Row, tick: u32)
         requires { IsRow self.now row.old }
         ensures row { IsRow self.now row.new }
-        ensures given { HasFeedsOf self.now tick row.new }
+        ensures given { HasFeedsOf self.now (given_bands self.now) tick row.new }
         ensures states { row.new.states ≡ row.old.states }
     {
         self.fed();
