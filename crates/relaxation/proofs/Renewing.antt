@@ -13,13 +13,13 @@ use Rattle.relaxation.proofs.Ticks.{tube-within}
 module _ {read other : Reader Interval} {R : List Interval → List Interval → Type 0} (kept : IsKept read other R)
     (unit : PlantUnit) (held given : List Interval) (rows others : ℕ → List Interval) (h : R held given) where
   -- its states
-  states-related : (t : ℕ) → ((q : ℕ) → q < t → R (rows q) (others q)) →
+  pub states-related : (t : ℕ) → ((q : ℕ) → q < t → R (rows q) (others q)) →
       R (renewed_states read unit held rows t) (renewed_states other unit given others t)
   states-related zero g = h
   states-related (suc t) g = stepped-kept kept unit _ _ _ _ (states-related t (λ q k. g q (omega arith))) (g t (omega arith))
 
   -- and its outputs
-  shown-related : (p t : ℕ) → ((q : ℕ) → q < t → R (rows q) (others q)) → (unit.instant ≡ true → R (rows t) (others t)) →
+  pub shown-related : (p t : ℕ) → ((q : ℕ) → q < t → R (rows q) (others q)) → (unit.instant ≡ true → R (rows t) (others t)) →
       R (renewed read unit p held rows t) (renewed other unit p given others t)
   shown-related p t g k = shown-kept kept unit p _ _ _ _ (states-related t g) k
 
