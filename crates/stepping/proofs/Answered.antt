@@ -1,5 +1,5 @@
 -- What a stepper answers is what is asked of a session.
-use Rattle.std.proofs.Common.{◌≡◌, ◌≢◌, ◌∙◌, ℕ, ◌+◌, ◌-◌, ◌<◌, ◌≤◌, length, List, Result, Ok, Err, None, Some}
+use Rattle.std.proofs.Common.{◌≡◌, ◌≢◌, ◌∙◌, ℕ, ◌+◌, ◌<◌, ◌≤◌, length, List, Result, Ok, Err, None}
 use Rattle.std.proofs.Common.{IfOk, IfErr, IsErrAnd, false, inl, inr, refl, sym, ap, subst, arith}
 use Rattle.std.proofs.lemmas.List.{length-map}
 use Rattle.quant.specs.Interval.{Interval}
@@ -13,8 +13,8 @@ use Rattle.plant.proofs.PlantLaws.{parts-bands, parts-limited}
 use Rattle.plant_units.specs.Units.{units_of, opening_of}
 use Rattle.renewal.specs.Plan.{PlanOf, IsPlan, AreCarried}
 use Rattle.renewal.specs.Carrying.{states_after}
-use Rattle.feeds.specs.Given.{given_tubes}
-use Rattle.feeds.specs.Reader.{ReaderOf, Gives, tubes, starved, again}
+use Rattle.feeds.specs.ReaderOf.{Feeding}
+use Rattle.feeds.specs.Reader.{Gives, AreFeedTubes}
 use Rattle.feeds.specs.declared.reader.FeedFault.{FeedFault}
 use Rattle.feeds.specs.declared.reader.FeedFault.TheVariants as feed
 use Rattle.relax_core.specs.Settled.{WindowOf}
@@ -23,7 +23,7 @@ use Rattle.window_accept.specs.declared.end.WindowEnd.TheVariants as end
 use Rattle.window_accept.specs.Session.{SessionOf, IsSession, IsGoingOn, Asks, next_plan, next_ticks}
 use Rattle.window_accept.specs.Session.{bands_of_plan, end_by, ended_by, NextWindow}
 use Rattle.window_accept.specs.Session as session
-use Rattle.stepping.specs.Stepping.{plan_from, IsStepper, IsStepped, IsAccepted, IsWideEnd, IsEndOf}
+use Rattle.stepping.specs.Stepping.{plan_from, IsStepper, IsAccepted, IsWideEnd, IsEndOf}
 use Rattle.stepping.specs.Stepping.{stepped_on}
 
 -- before the first window
@@ -71,31 +71,26 @@ plan-same held now row n feeds e k r =
 pub next-planned : (now : SessionOf) (feeds : List Tube) →
     ((plan : PlanOf) → IsPlant plan.parts → 1 ≤ plan.ticks → plan.ticks ≤ 64 →
     plan.first + plan.ticks ≤ plan.parts.ticks → AreCarried plan.parts plan.carried →
-    plan.feeds ≡ given_tubes plan.parts plan.first plan.ticks → IsPlan plan) →
-    IsSession now → now.tick < now.parts.ticks → feeds ≡ given_tubes now.parts now.tick (next_ticks now) →
+    AreFeedTubes plan.parts plan.ticks plan.feeds → IsPlan plan) →
+    IsSession now → now.tick < now.parts.ticks → AreFeedTubes now.parts (next_ticks now) feeds →
     IsPlan (next_plan now feeds)
-next-planned now feeds law is left given =
+next-planned now feeds law is left tubes =
     let window = is.plant.ranges.window in
     law (next_plan now feeds) is.plant (omega (arith, window.0)) (omega (arith, window.1))
-    (omega arith) is.carried given
-
--- what a reader gives
-given-is : {parts : FileParts} {first n : ℕ} {old new : ReaderOf} (answer : Result (List Tube) FeedFault)
-    (made : List Tube) → Gives parts first n old new answer → answer ≡ Ok made → made ≡ given_tubes parts first n
-given-is answer made (tubes e k) is = cc
-given-is answer made (starved e k) is = cc
-given-is answer made (again fault e k) is = cc
-
-pub tubes-given : {parts : FileParts} {first n : ℕ} {old new : ReaderOf} (made : List Tube) →
-    Gives parts first n old new (Ok made) → made ≡ given_tubes parts first n
-tubes-given made gives = given-is (Ok made) made gives refl
+    (omega arith) is.carried tubes
 
 -- the reader was asked by the session that a stepper stands for
-pub asked : (held now : SessionOf) (n : ℕ) (reader read : ReaderOf) (answer : Result (List Tube) FeedFault) →
+pub asked : (held now : SessionOf) (n : ℕ) (reader read : Feeding) (answer : Result (List Tube) FeedFault) →
     held ≡ now → n ≡ next_ticks now → Gives held.parts held.tick n reader read answer → Asks now reader read answer
 asked held now n reader read answer e k gives =
     subst (λ (m : ℕ). Gives now.parts now.tick m reader read answer) k
     (subst (λ (s : SessionOf). Gives s.parts s.tick n reader read answer) e gives)
+
+-- with tubes that are those of the answer
+pub asked-with : (held now : SessionOf) (n : ℕ) (reader read : Feeding) (made tubes : List Tube) → held ≡ now → n ≡ next_ticks now →
+    made ≡ tubes → Gives held.parts held.tick n reader read (Ok tubes) → Asks now reader read (Ok made)
+asked-with held now n reader read made tubes e k same gives =
+    subst (λ (given : List Tube). Asks now reader read (Ok given)) (sym same) (asked held now n reader read (Ok tubes) e k gives)
 
 -- a tick is left
 pub going-on : (held now : SessionOf) (last : ℕ) → held ≡ now → last ≡ held.parts.ticks → IsSession held →
@@ -105,7 +100,7 @@ going-on held now last e k is none ne = record {
   left = subst (λ (s : SessionOf). s.tick < s.parts.ticks) e (omega (arith, is.tick));
 }
 
-module _ (now : SessionOf) (reader read : ReaderOf) (going : IsGoingOn now) where
+module _ (now : SessionOf) (reader read : Feeding) (going : IsGoingOn now) where
   unfed-by : (fault : FeedFault) → Asks now reader read (Err fault) →
       NextWindow false now (ended_by now (end_by fault)) reader read (Err (end_by fault))
   unfed-by feed.NoMemory asks = session.starved going (inr (Err feed.NoMemory, asks)) refl

@@ -1,11 +1,11 @@
 -- A plant that is stepped through the ticks of a window makes the run's bands, tick by tick.
-use Rattle.std.proofs.Common.{◌≡◌, ◌≢◌, ◌∙◌, ℕ, suc, ◌+◌, ◌<◌, ◌≤◌, List, [], length, set, get_or, inl, inr}
-use Rattle.std.proofs.Common.{refl, sym, ap, subst, arith}
-use Rattle.std.proofs.Common.{length-set, get_or-set_other, get_or-set_same}
+use Rattle.std.proofs.Common.{◌≡◌, ◌∙◌, ℕ, suc, ◌+◌, ◌<◌, ◌≤◌, List, [], length, get_or, inl, inr}
+use Rattle.std.proofs.Common.{sym, ap, arith}
+use Rattle.std.proofs.Common.{get_or-set_other}
 use Rattle.std.proofs.lemmas.Bool.{cases_eq}
 use Rattle.std.proofs.lemmas.Grind.{get_or-set_at}
 use Rattle.std.proofs.lemmas.List.{get_or_default}
-use Rattle.quant.specs.Interval.{Interval, AllInside}
+use Rattle.quant.specs.Interval.{Interval}
 use Rattle.quant.proofs.Calls.{inside-length}
 use Rattle.relaxation.specs.Tube.{Tube, at}
 use Rattle.parts.specs.Parts.{FileParts}
@@ -17,7 +17,7 @@ use Rattle.plant.specs.Rows.{RowBands, IsRow, IsStep, states_in, stream_in, give
 use Rattle.plant.specs.Sound.{IsPlant}
 use Rattle.plant.proofs.PlantLaws.{plant-sound, parts-ranked}
 use Rattle.plant.proofs.Ticks.{streams-same, stepped-same}
-use Rattle.stepping.specs.Stepping.{tube_at, states_from, streams_from, AreFeedsAt, HaveFed, AreTubes}
+use Rattle.stepping.specs.Stepping.{tube_at, states_from, streams_from, AreFeedsAt, HaveFed}
 use Rattle.stepping.specs.Stepping.{HaveTaken, HaveRun}
 
 pub streams-few : (parts : FileParts) → IsPlant parts → length (streams_of parts) ≤ 1024

@@ -1,5 +1,5 @@
 -- A window that was stepped has the run of its plan.
-use Rattle.std.proofs.Common.{◌≡◌, ◌∙◌, ℕ, ◌+◌, ◌-◌, ◌<◌, ◌≤◌, pos, List, [], ◌∷◌, length, map, replicate}
+use Rattle.std.proofs.Common.{◌≡◌, ◌∙◌, ℕ, ◌-◌, ◌<◌, pos, List, [], length, map, replicate}
 use Rattle.std.proofs.Common.{get_or, slice_index_or, refl, sym, ap, subst, subst₂, arith}
 use Rattle.std.specs.List.{range_with_len, AllByRecursion}
 use Rattle.std.proofs.lemmas.List.{length-map, length-replicate, get_or-replicate}
@@ -7,7 +7,7 @@ use Rattle.std.proofs.lemmas.List.FromFn.{fill_by_all, get_or-map-range_with_len
 use Rattle.quant.specs.Interval.{Interval, AllInside, point}
 use Rattle.flowsheet.specs.Reading.{on_bands}
 use Rattle.flowsheet.specs.Run.{run_states}
-use Rattle.relaxation.specs.Tube.{Tube, at, tube_of}
+use Rattle.relaxation.specs.Tube.{Tube, at}
 use Rattle.relaxation.specs.Window.{run_tube}
 use Rattle.parts.specs.Parts.{FileParts}
 use Rattle.plant_streams.specs.declared.streams.Stream.{Stream}
@@ -19,13 +19,13 @@ use Rattle.plant.specs.Rows.{RowBands}
 use Rattle.plant.proofs.Lookups.{item, at-map}
 use Rattle.renewal.specs.Plan.{PlanOf, IsPlan, window_of, carried_into}
 use Rattle.relax_core.specs.Board.{RowOf}
-use Rattle.relax_core.specs.Settled.{WindowOf, IsWindow, bands_in}
+use Rattle.relax_core.specs.Settled.{WindowOf, bands_in}
 use Rattle.window_accept.specs.declared.wide.TooWide.{TooWide}
 use Rattle.window_accept.specs.declared.end.WindowEnd.{WindowEnd}
 use Rattle.window_accept.specs.declared.end.WindowEnd.TheVariants as ends
 use Rattle.window_accept.specs.Wide.{width_of, IsTooWide, AreNarrowEnough, IsFirstWide}
 use Rattle.window_accept.specs.Session.{SessionOf, HasRunOf, next_plan, next_ticks, bands_of_plan}
-use Rattle.stepping.specs.Stepping.{plan_from, tube_at, streams_from, AreTubes, HaveRun, IsStepped, IsWideEnd}
+use Rattle.stepping.specs.Stepping.{tube_at, streams_from, AreTubes, HaveRun, IsStepped, IsWideEnd}
 
 -- a tube for each stream, at its limits
 pub limit-tubes : (parts : FileParts) (n : ℕ) (tubes : List Tube) →

@@ -64,8 +64,9 @@ fn end_by(fault: FeedFault) -> WindowEnd
 
 impl Stepper {
     ghost use Rattle.std.specs.Prelude.{◌≡◌, ◌<◌, ◌≤◌, false, None, Ok, Err, IfOk, IfErr};
-    ghost use Rattle.feeds.specs.Given.{given_tubes};
-    ghost use Rattle.window_accept.specs.Session.{opening_session, next_ticks, next_plan, ended_by, NextWindow};
+    ghost use Rattle.feeds.specs.ReaderOf.{feeding};
+    ghost use Rattle.feeds.specs.Reader.{AreFeedTubes};
+    ghost use Rattle.window_accept.specs.Session.{opening_session, next_ticks, next_plan, ended_by, IsReady, NextWindow};
     ghost use Rattle.stepping.specs.Stepping.{IsStepped, IsAccepted, IsEndOf, stepped_on, IsStepper};
 
     /// A stepper before the plant's first window.
@@ -92,7 +93,7 @@ impl Stepper {
     /// Steps a copy of the row through the next window.
     fn stepped(&self, alloc: Global, feeds: &[Tube]) -> Result<Stepped, AllocError>
         requires left { self.now.tick < self.now.parts.ticks }
-        requires feeds { feeds.now ≡ given_tubes self.now.parts self.now.tick (next_ticks self.now) }
+        requires feeds { AreFeedTubes self.now.parts (next_ticks self.now) feeds.now }
         ensures { IfOk result (λ made. IsStepped (next_plan self.now feeds.now) made.window made.row) }
     {
         given_feeds_can_be_planned();
@@ -111,7 +112,7 @@ impl Stepper {
     /// Steps the next window, and judges its widths.
     fn judged(&self, alloc: Global, feeds: &[Tube]) -> Result<Stepped, WindowEnd>
         requires left { self.now.tick < self.now.parts.ticks }
-        requires feeds { feeds.now ≡ given_tubes self.now.parts self.now.tick (next_ticks self.now) }
+        requires feeds { AreFeedTubes self.now.parts (next_ticks self.now) feeds.now }
         ensures ok { IfOk result (λ made. IsAccepted self.now feeds.now made.window made.row) }
         ensures err { IfErr result (IsEndOf self.now feeds.now) }
     {
@@ -131,14 +132,13 @@ impl Stepper {
         source: &mut E,
     ) -> Result<Stepped, WindowEnd>
         requires end { self.now.end ≡ None }
-        requires later { feeds.old.asked ≤ self.now.tick }
-        ensures ok { IfOk result (λ made. NextWindow false self.now (stepped_on self.now made.row) feeds.old feeds.new
-            (Ok made.window)) }
+        requires ready { IsReady self.now feeds.old }
+        ensures ok { IfOk result (λ made. NextWindow false self.now (stepped_on self.now made.row)
+            (feeding E.left E.faults feeds.old source.old) (feeding E.left E.faults feeds.new source.new) (Ok made.window)) }
         ensures ticks { IfOk result (λ made. made.window.ticks ≡ next_ticks self.now) }
         ensures stepper { IfOk result (λ made. IsStepper (stepped_on self.now made.row) made.row) }
-        ensures err { IfErr result (λ end. NextWindow false self.now (ended_by self.now end) feeds.old feeds.new
-            (Err end)) }
-        ensures untouched { source.new ≡ source.old }
+        ensures err { IfErr result (λ end. NextWindow false self.now (ended_by self.now end)
+            (feeding E.left E.faults feeds.old source.old) (feeding E.left E.faults feeds.new source.new) (Err end)) }
     {
         if self.tick == self.plant.parts().ticks {
             return Err(WindowEnd::Finished);

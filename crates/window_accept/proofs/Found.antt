@@ -1,5 +1,5 @@
 -- The first place at which a band is wider than was asked is found, where there is one.
-use Rattle.std.proofs.Common.{◌≡◌, ◌⊎◌, inl, inr, refl, sym, ap, ◌∙◌, subst, ℕ, zero, suc, ◌+◌, ◌-◌, ◌<◌, ◌≤◌, ℤ, pos, ◌<ℤ◌, Bool, true, false}
+use Rattle.std.proofs.Common.{◌≡◌, ◌⊎◌, inl, inr, refl, sym, subst, ℕ, zero, suc, ◌+◌, ◌-◌, ◌<◌, ◌≤◌, ℤ, pos, ◌<ℤ◌, Bool, true, false}
 use Rattle.std.proofs.Common.{List, length, slice_index_or, Option, Some, None, [], ◌∷◌, arith}
 use Rattle.std.proofs.lemmas.Int.{ints}
 use Rattle.quant.specs.Interval.{Interval, point}
@@ -10,7 +10,7 @@ use Rattle.plant_streams.specs.Streams.{streams_of}
 use Rattle.plant.specs.PlantOf.{plant_of}
 use Rattle.relax_core.specs.Stepping.{IsOutputOf}
 use Rattle.window_accept.specs.declared.wide.TooWide.{TooWide}
-use Rattle.window_accept.specs.Wide.{asked_of, is_signal, asked_at, width_of, IsTooWide, IsSooner, IsAmong, IsFirstWide, FindsWide}
+use Rattle.window_accept.specs.Wide.{asked_of, is_signal, asked_at, width_of, IsTooWide, IsAmong, IsFirstWide, FindsWide}
 
 abbrev Decided : Type 0 → Type 0
 Decided P = P ⊎ (P → ⊥)

@@ -4,4 +4,5 @@ pub mod Following
 pub mod Adoptable
 pub mod Judging
 pub mod Making
+pub mod Readers
 pub mod Found

@@ -8,11 +8,13 @@ use Rattle.plant_units.specs.Units.{units_of, opening_of}
 use Rattle.plant.specs.Sound.{IsPlant}
 use Rattle.renewal.specs.Plan.{PlanOf, window_of, AreCarried, IsPlan}
 use Rattle.renewal.specs.Carrying.{states_after}
-use Rattle.feeds.specs.Given.{given_tubes, run_plan}
-use Rattle.feeds.specs.Reader.{ReaderOf, Gives}
+use Rattle.feeds.specs.Given.{run_plan, given_by}
+use Rattle.feeds.specs.ReaderOf.{Feeding}
+use Rattle.feeds.specs.Reader.{Gives, AreFeedTubes}
 use Rattle.feeds.specs.declared.reader.FeedFault.{FeedFault}
 use Rattle.feeds.specs.declared.reader.FeedFault.TheVariants as feed
 use Rattle.feeds.proofs.Windows.{is-plan, opening-is}
+use Rattle.feeds.proofs.Accepted.{records-within}
 use Rattle.relax_core.specs.Settled.{Settles}
 use Rattle.window_accept.specs.declared.wide.TooWide.{TooWide}
 use Rattle.window_accept.specs.declared.end.WindowEnd.TheVariants as end
@@ -21,10 +23,10 @@ use Rattle.window_accept.specs.Wide.{AreNarrowEnough, IsFirstWide}
 use Rattle.window_accept.specs.Session.{SessionOf, IsSession, HasRunOf, IsGoingOn, Asks, NextWindow, ended_by, next_ticks, next_plan}
 use Rattle.window_accept.specs.Session.{end_by, given, finished, unfed, wide, starved, bands_of_plan}
 use Rattle.window_accept.specs.Making.{IsSettledFor, IsPlanned, IsNext}
-use Rattle.window_accept.proofs.Following.{gives-given, some-ticks, few-ticks, ticks-inside}
+use Rattle.window_accept.proofs.Following.{some-ticks, few-ticks, ticks-inside}
 
 -- a reader's fault ends the session
-pub fault-ends : (relaxes : Bool) (session : SessionOf) (reader read : ReaderOf) (fault : FeedFault) → IsGoingOn session →
+pub fault-ends : (relaxes : Bool) (session : SessionOf) (reader read : Feeding) (fault : FeedFault) → IsGoingOn session →
     Asks session reader read (Err fault) →
     NextWindow relaxes session (ended_by session (end_by fault)) reader read (Err (end_by fault))
 fault-ends relaxes session reader read feed.NoMemory going asks = starved going (inr (Err feed.NoMemory, asks)) refl
@@ -40,8 +42,9 @@ pub opening-session : (file : FileParts) (carried : List (List Interval)) → Is
     carried ≡ map opening_of (units_of file) →
     IsSession (record { parts = file; tick = 0; carried = carried; end = None })
 opening-session file carried plant is =
-    let plan : IsPlan (run_plan file 0 1) = is-plan file 0 1 plant (omega arith) (omega arith) (omega (arith, plant.ranges.ticks.0)) in
-    let same : (run_plan file 0 1).carried ≡ carried = opening-is file 1 ∙ sym is in
+    let plan : IsPlan (run_plan file (given_by file None) 0 1) = is-plan file (given_by file None) 0 1 plant
+    (records-within file None plant) (omega arith) (omega arith) (omega (arith, plant.ranges.ticks.0)) in
+    let same : (run_plan file (given_by file None) 0 1).carried ≡ carried = opening-is file (given_by file None) 1 ∙ sym is in
     record {
       plant = plant;
       tick = omega arith;
@@ -49,30 +52,29 @@ opening-session file carried plant is =
     }
 
 -- what the reader was asked, by a session that is seen
-pub asked-by : (seen session : SessionOf) (n : ℕ) (reader read : ReaderOf) (answer : Result (List Tube) FeedFault) →
+pub asked-by : (seen session : SessionOf) (n : ℕ) (reader read : Feeding) (answer : Result (List Tube) FeedFault) →
     seen ≡ session → n ≡ next_ticks session → Gives seen.parts seen.tick n reader read answer → Asks session reader read answer
 asked-by seen session n reader read answer same e gives =
     subst (λ (s : SessionOf). Gives s.parts s.tick (next_ticks session) reader read answer) same
     (subst (λ (k : ℕ). Gives seen.parts seen.tick k reader read answer) e gives)
 
--- a session's next window can be planned, as given feeds can
-module _ (seen session : SessionOf) (n : ℕ) (carried : List (List Interval)) (tubes : List Tube) (reader read : ReaderOf)
+-- a session's next window can be planned, as tubes of feeds can
+module _ (seen session : SessionOf) (n : ℕ) (carried : List (List Interval)) (tubes : List Tube) (reader read : Feeding)
     (same : seen ≡ session) (is : IsSession seen) (going : IsGoingOn session) (counted : n ≡ next_ticks session)
     (carried_is : carried ≡ seen.carried) (gives : Gives seen.parts seen.tick n reader read (Ok tubes)) where
   pub can-be-planned : ((plan : PlanOf) → IsPlant plan.parts → 1 ≤ plan.ticks → plan.ticks ≤ 64 →
       plan.first + plan.ticks ≤ plan.parts.ticks → AreCarried plan.parts plan.carried →
-      plan.feeds ≡ given_tubes plan.parts plan.first plan.ticks → IsPlan plan) →
+      AreFeedTubes plan.parts plan.ticks plan.feeds → IsPlan plan) →
       IsPlan (record { parts = seen.parts; first = seen.tick; ticks = n; carried = carried; feeds = tubes })
   can-be-planned law =
       let ticks : n ≡ next_ticks seen = counted ∙ ap (λ (s : SessionOf). next_ticks s) (sym same) in
       let left : seen.tick < seen.parts.ticks = subst (λ (s : SessionOf). s.tick < s.parts.ticks) (sym same) going.left in
       law (record { parts = seen.parts; first = seen.tick; ticks = n; carried = carried; feeds = tubes }) is.plant
       (omega (arith, some-ticks seen is left)) (omega (arith, few-ticks seen is)) (omega (arith, ticks-inside seen is))
-      (subst (AreCarried seen.parts) (sym carried_is) is.carried)
-      (gives-given seen.parts seen.tick n reader read tubes gives).0
+      (subst (AreCarried seen.parts) (sym carried_is) is.carried) gives.tubes
 
 -- it has ended where no tick is left
-pub finishes : (relaxes : Bool) (seen session : SessionOf) (reader : ReaderOf) (ticks : ℕ) → seen ≡ session → IsSession seen →
+pub finishes : (relaxes : Bool) (seen session : SessionOf) (reader : Feeding) (ticks : ℕ) → seen ≡ session → IsSession seen →
     session.end ≡ None → ticks ≡ seen.parts.ticks → ticks ≤ seen.tick →
     NextWindow relaxes session (ended_by session end.Finished) reader reader (Err end.Finished)
 finishes relaxes seen session reader ticks same is unended e h =
@@ -87,7 +89,7 @@ goes-on seen session ticks same unended e h = record {
 }
 
 -- a planned window ends the session, or moves it on
-module _ (session : SessionOf) (reader read : ReaderOf) (plan : PlanOf) (going : IsGoingOn session)
+module _ (session : SessionOf) (reader read : Feeding) (plan : PlanOf) (going : IsGoingOn session)
     (planned : IsPlanned session reader read plan) where
   pub planned-starved : NextWindow true session (ended_by session end.NoMemory) reader read (Err end.NoMemory)
   planned-starved = starved going (inr (Ok planned.feeds, planned.asks)) refl

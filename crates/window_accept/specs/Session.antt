@@ -13,7 +13,10 @@ use Rattle.renewal.specs.Plan.{PlanOf, window_of, AreCarried}
 use Rattle.renewal.specs.Carrying.{states_after}
 use Rattle.feeds.specs.declared.reader.FeedFault.{FeedFault}
 use Rattle.feeds.specs.declared.reader.FeedFault.TheVariants as feed
-use Rattle.feeds.specs.Reader.{ReaderOf, Gives}
+use Rattle.feeds.specs.Given.{given_by}
+use Rattle.feeds.specs.ReaderOf.{ReaderOf, Feeding}
+use Rattle.feeds.specs.Reader.{Gives}
+use Rattle.feeds.specs.Standing.{Stands, IsReaderFor}
 use Rattle.relax_core.specs.Settled.{WindowOf, IsWindow, Settles}
 use Rattle.window_accept.specs.declared.wide.TooWide.{TooWide}
 use Rattle.window_accept.specs.Wide.{AreNarrowEnough, IsFirstWide}
@@ -92,7 +95,7 @@ pub record IsGoingOn (session : SessionOf) : Type 0 where
   pub left : session.tick < session.parts.ticks
 
 -- the reader was asked for the tubes of the session's next window, and answered this
-abbrev pub Asks : SessionOf → ReaderOf → ReaderOf → Result (List Tube) FeedFault → Type 0
+abbrev pub Asks : SessionOf → Feeding → Feeding → Result (List Tube) FeedFault → Type 0
 Asks session reader read answer = Gives session.parts session.tick (next_ticks session) reader read answer
 
 -- how a window was made: by relaxing, and then its steps settle it; or by stepping the plant, and then there are none
@@ -100,9 +103,9 @@ abbrev pub IsMadeBy : Bool → PlanOf → WindowOf → Type 0
 IsMadeBy true plan window = Settles (window_of plan) window.steps
 IsMadeBy false plan window = window.steps ≡ []
 
--- What a session answers that relaxes its windows, or steps them. The reader of feeds is asked once, and only where there is a window
--- to be made.
-pub data NextWindow (relaxes : Bool) (old new : SessionOf) (reader read : ReaderOf) :
+-- What a session answers that relaxes its windows, or steps them, with its reader and that one's source before and after. The reader is
+-- asked once, and only where there is a window to be made.
+pub data NextWindow (relaxes : Bool) (old new : SessionOf) (reader read : Feeding) :
     Result WindowOf WindowEnd → Type 0 where
   -- the run of its next window, in which no band is wider than was asked
   given : (feeds : List Tube) (window : WindowOf) → IsGoingOn old → Asks old reader read (Ok feeds) →
@@ -126,14 +129,29 @@ pub data NextWindow (relaxes : Bool) (old new : SessionOf) (reader read : Reader
   again : (end : WindowEnd) → old.end ≡ Some end → read ≡ reader → new ≡ old →
       NextWindow relaxes old new reader read (Err end)
 
--- the states of the plant's interval run at its next tick are carried into its next window
-abbrev pub FollowsRun : SessionOf → Type 0
-FollowsRun session = session.carried ≡ map (states_of_run session.parts session.tick) (range_with_len 0 (length (units_of session.parts)))
+-- the states of the plant's interval run at its next tick are carried into its next window, where these records give its feeds
+abbrev pub FollowsRun : Option (List ℕ) → SessionOf → Type 0
+FollowsRun records session = session.carried
+    ≡ map (states_of_run session.parts (given_by session.parts records) session.tick) (range_with_len 0 (length (units_of session.parts)))
+
+-- the reader was opened for the session's plant and, where the session has not ended, asked no further than it is
+pub record IsReady (session : SessionOf) (reader : ReaderOf) : Type 0 where
+  pub reader_is : IsReaderFor session.parts reader
+  pub later : session.end ≡ None → reader.asked ≤ session.tick
+
+-- A session that has not ended follows the run by these records, and its reader stands in them, asked no further than the session is.
+pub record IsAlong (records : Option (List ℕ)) (session : SessionOf) (feeds : Feeding) : Type 0 where
+  pub session_is : IsSession session
+  pub follows : FollowsRun records session
+  pub unended : session.end ≡ None
+  pub ready : IsReady session feeds.reader
+  pub faultless : feeds.reader.fault ≡ None
+  pub stands : Stands session.parts records feeds
 
 -- the window has n ticks of the plant from a first one, and the bands of the plant's interval run at them
-pub record HasRunAt (parts : FileParts) (first n : ℕ) (window : WindowOf) : Type 0 where
+pub record HasRunAt (parts : FileParts) (records : Option (List ℕ)) (first n : ℕ) (window : WindowOf) : Type 0 where
   pub window_is : IsWindow parts window
   pub first_is : window.first ≡ first
   pub ticks_are : window.ticks ≡ n
   pub run : (t s : ℕ) → t < n → s < length (streams_of parts) →
-      at (slice_index_or window.tubes s []) t ≡ streams_of_run parts (first + t) s
+      at (slice_index_or window.tubes s []) t ≡ streams_of_run parts (given_by parts records) (first + t) s

@@ -43,7 +43,8 @@ impl Model for Session {
 impl Session {
     ghost use Rattle.std.specs.Prelude.{◌≡◌, ◌≤◌, true, None, IfOk, OnOk};
     ghost use Rattle.flow_edge.specs.Faults.{Rose};
-    ghost use Rattle.window_accept.specs.Session.{IsSession, IsGoingOn, opening_session, next_ticks, NextWindow};
+    ghost use Rattle.window_accept.specs.Session.{IsSession, IsGoingOn, opening_session, next_ticks, IsReady, NextWindow};
+    ghost use Rattle.feeds.specs.ReaderOf.{feeding};
     ghost use Rattle.window_accept.specs.Making.{Plans, Makes};
 
     /// A session before the plant's first window.
@@ -82,9 +83,8 @@ impl Session {
         source: &mut E,
     ) -> Result<WindowPlan<'_>, WindowEnd>
         requires going { IsGoingOn self.now }
-        requires asked { feeds.old.asked ≤ self.now.tick }
-        ensures plans { Plans self.now feeds.old feeds.new result }
-        ensures untouched { source.new ≡ source.old }
+        requires ready { IsReady self.now feeds.old }
+        ensures { Plans self.now (feeding E.left E.faults feeds.old source.old) (feeding E.left E.faults feeds.new source.new) result }
     {
         given_feeds_can_be_planned();
         let ticks = self.next_ticks();
@@ -103,10 +103,9 @@ impl Session {
         source: &mut E,
     ) -> Result<Settled, WindowEnd>
         requires unended { self.now.end ≡ None }
-        requires asked { feeds.old.asked ≤ self.now.tick }
-        ensures makes { Makes self.now feeds.old feeds.new result }
+        requires ready { IsReady self.now feeds.old }
+        ensures makes { Makes self.now (feeding E.left E.faults feeds.old source.old) (feeding E.left E.faults feeds.new source.new) result }
         ensures asked { OnOk result (Rose (C.asked chaos.old) (C.asked chaos.new)) }
-        ensures untouched { source.new ≡ source.old }
     {
         windows_carry_the_run();
         if self.plant.parts().ticks <= self.tick {
@@ -130,10 +129,9 @@ impl Session {
         feeds: &mut FeedReader,
         source: &mut E,
     ) -> Result<Window, WindowEnd>
-        requires { self.old.end ≡ None → feeds.old.asked ≤ self.old.tick }
-        ensures next { NextWindow true self.old self.new feeds.old feeds.new result }
+        requires { IsReady self.old feeds.old }
+        ensures next { NextWindow true self.old self.new (feeding E.left E.faults feeds.old source.old) (feeding E.left E.faults feeds.new source.new) result }
         ensures asked { OnOk result (Rose (C.asked chaos.old) (C.asked chaos.new)) }
-        ensures untouched { source.new ≡ source.old }
     {
         if let Some(end) = self.end {
             return Err(end);

@@ -2,7 +2,8 @@
 
 ghost use Rattle.std.specs.Prelude.{◌≡◌, ◌≤◌, Bool, None};
 ghost use Rattle.std.specs.Thread.{IsSync};
-ghost use Rattle.window_accept.specs.Session.{SessionOf, IsSession, NextWindow};
+ghost use Rattle.window_accept.specs.Session.{SessionOf, IsSession, IsReady, NextWindow};
+ghost use Rattle.feeds.specs.ReaderOf.{feeding};
 
 use crate::end::WindowEnd;
 use crate::session::Session;
@@ -34,9 +35,9 @@ pub trait Windows {
         source: &mut E,
     ) -> Result<Window, WindowEnd>
         requires sync { IsSync R.row }
-        requires later { (session self.old).end ≡ None → feeds.old.asked ≤ (session self.old).tick }
-        ensures next { NextWindow relaxes (session self.old) (session self.new) feeds.old feeds.new result }
-        ensures untouched { source.new ≡ source.old };
+        requires ready { IsReady (session self.old) feeds.old }
+        ensures { NextWindow relaxes (session self.old) (session self.new)
+            (feeding E.left E.faults feeds.old source.old) (feeding E.left E.faults feeds.new source.new) result };
 }
 
 /// Makes windows by relaxing them.

@@ -1,1 +1,0 @@
-use Rattle.window_accept.proofs.settling.taken_from.Goals as goal

@@ -1,12 +1,9 @@
 -- The session's next window, or its end.
-use Rattle.std.proofs.Common.{◌≡◌, ◌∙◌, List, Result, Ok, sym, subst, ap, refl}
-use Rattle.relaxation.specs.Tube.{Tube}
+use Rattle.std.proofs.Common.{◌≡◌, ◌∙◌, subst, ap, refl}
 use Rattle.parts.specs.Parts.{FileParts}
-use Rattle.plant.specs.Rows.{RowBands}
-use Rattle.relax_core.specs.Settled.{WindowOf}
-use Rattle.window_accept.specs.Session.{SessionOf, IsSession, Asks, finished}
+use Rattle.window_accept.specs.Session.{SessionOf, IsSession, finished}
 use Rattle.stepping.specs.declared.stepper.Stepped.{Stepped}
-use Rattle.stepping.proofs.Answered.{tubes-given, asked, going-on, unfed-end, all-given, all-ended, all-stand}
+use Rattle.stepping.proofs.Answered.{asked, asked-with, going-on, unfed-end, all-given, all-ended, all-stand}
 use Rattle.stepping.proofs.stepper.Stepper.made.Goals as goal
 
 pub returns-then-self-parts-clause-err : goal.returns-then-self-parts-clause-err
@@ -16,9 +13,9 @@ returns-then-self-parts-clause-err g c =
     (c.if-self-parts.true ∙ last)) refl refl
 
 pub judged-requires-clause-feeds : goal.judged-requires-clause-feeds
-judged-requires-clause-feeds g c = c.as_slice.ensures ∙ tubes-given c.in-Ok.tubes (asked _ c.args.self.now
-    c.next_ticks.result c.args.feeds.now c.next_window.new.self (Ok c.in-Ok.tubes) c.self.view_is c.next_ticks.ensures
-    c.in-Ok.ensures.gives)
+judged-requires-clause-feeds g c =
+    (asked-with _ c.args.self.now c.next_ticks.result _ _ _ _ c.self.view_is c.next_ticks.ensures c.as_slice.ensures
+    c.in-Ok.ensures.gives).tubes
 
 pub returns-in-Ok-clause-ok : goal.returns-in-Ok-clause-ok
 returns-in-Ok-clause-ok g c =
@@ -26,10 +23,9 @@ returns-in-Ok-clause-ok g c =
     let last = ap (λ (p : FileParts). p.ticks) (c.behind-self.view_is ∙ c.parts.ensures.parts) in
     let going = going-on _ now _ c.self.view_is last c.self.invariant.session_is c.requires.end
     c.if-self-parts.false in
-    let asks = subst (λ (tubes : List Tube). Asks now c.args.feeds.now c.next_window.new.self (Ok tubes))
-    (sym c.as_slice.ensures) (asked _ now c.next_ticks.result c.args.feeds.now c.next_window.new.self
-    (Ok c.in-Ok.tubes) c.self.view_is c.next_ticks.ensures c.in-Ok.ensures.gives) in
-    all-given now c.args.feeds.now c.next_window.new.self going (λ (made : Stepped). made.window) (λ made. made.row)
+    let asks = asked-with _ now c.next_ticks.result _ _ _ _ c.self.view_is c.next_ticks.ensures c.as_slice.ensures
+    c.in-Ok.ensures.gives in
+    all-given now _ _ going (λ (made : Stepped). made.window) (λ made. made.row)
     c.as_slice.result.now c.judged.result asks c.judged.ensures.ok
 
 pub returns-in-Ok-clause-stepper : goal.returns-in-Ok-clause-stepper
@@ -45,10 +41,9 @@ returns-in-Ok-clause-err g c =
     let last = ap (λ (p : FileParts). p.ticks) (c.behind-self.view_is ∙ c.parts.ensures.parts) in
     let going = going-on _ now _ c.self.view_is last c.self.invariant.session_is c.requires.end
     c.if-self-parts.false in
-    let asks = subst (λ (tubes : List Tube). Asks now c.args.feeds.now c.next_window.new.self (Ok tubes))
-    (sym c.as_slice.ensures) (asked _ now c.next_ticks.result c.args.feeds.now c.next_window.new.self
-    (Ok c.in-Ok.tubes) c.self.view_is c.next_ticks.ensures c.in-Ok.ensures.gives) in
-    all-ended now c.args.feeds.now c.next_window.new.self going c.as_slice.result.now c.judged.result asks
+    let asks = asked-with _ now c.next_ticks.result _ _ _ _ c.self.view_is c.next_ticks.ensures c.as_slice.ensures
+    c.in-Ok.ensures.gives in
+    all-ended now _ _ going c.as_slice.result.now c.judged.result asks
     c.judged.ensures.err
 
 pub returns-in-Err-clause-err : goal.returns-in-Err-clause-err
@@ -57,6 +52,6 @@ returns-in-Err-clause-err g c =
     let last = ap (λ (p : FileParts). p.ticks) (c.behind-self.view_is ∙ c.parts.ensures.parts) in
     let going = going-on _ now _ c.self.view_is last c.self.invariant.session_is c.requires.end
     c.if-self-parts.false in
-    unfed-end now c.args.feeds.now c.next_window.new.self going c.in-Err.fault c.end_by.result c.end_by.ensures
-    (asked _ now c.next_ticks.result c.args.feeds.now c.next_window.new.self _ c.self.view_is c.next_ticks.ensures
+    unfed-end now _ _ going c.in-Err.fault c.end_by.result c.end_by.ensures
+    (asked _ now c.next_ticks.result _ _ _ c.self.view_is c.next_ticks.ensures
     c.in-Err.ensures.gives)
