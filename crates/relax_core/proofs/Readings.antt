@@ -1,16 +1,21 @@
 -- Named versions are read in port by port.
-use Rattle.std.proofs.Common.{◌≡◌, ◌∙◌, ℕ, zero, suc, ◌+◌, ◌<◌, ◌≤◌, List, [], ◌∷◌, length, map, slice_index_or, slice_index, refl, sym, ap, subst, arith, inl, inr, get_or-set_same, get_or-set_other}
+use Rattle.std.proofs.Common.{◌≡◌, ◌∙◌, ℕ, zero, suc, ◌+◌, ◌<◌, ◌≤◌, List, [], ◌∷◌, ◌++◌, length, map, pos, slice_index_or, slice_index, refl, sym, ap, subst, arith, inl, inr, get_or-set_same, get_or-set_other}
 use Rattle.std.specs.Prelude.{slice_set}
 use Rattle.std.proofs.lemmas.Bool.{cases_eq, cases_lt}
 use Rattle.std.proofs.lemmas.List.{ext_get_or, get_or_past}
+use Rattle.std.proofs.Math.ListN.{get_or-map}
+use Rattle.quant.specs.Interval.{point}
 use Rattle.quant.proofs.Calls.{inside-length, same_cons}
-use Rattle.relaxation.specs.Tube.{Tube, IsWithin}
+use Rattle.relaxation.specs.Tube.{Tube, IsWithin, at}
+use Rattle.relaxation.specs.Window.{row_of}
 use Rattle.relaxation.specs.Core.{Versions, versions_of, version_at, named, AreThere}
+use Rattle.tubes.specs.Meeting.{IsFirstDifference}
 use Rattle.tubes.specs.Shape.{HasShapeOf}
 use Rattle.renewal.specs.Plan.{PlanOf, window_of}
 use Rattle.renewal.specs.Room.{AreOpened}
 use Rattle.renewal.proofs.Openings.{set-opened}
 use Rattle.relax_core.specs.Making.{AreVersionsWithin}
+use Rattle.relax_core.specs.Rooms.{AreSameTicks}
 
 -- tubes in one another have one shape
 pub within-shape : (A B : Tube) → IsWithin A B → HasShapeOf A B
@@ -120,6 +125,38 @@ module _ (plan : PlanOf) (state : Versions) (within : AreVersionsWithin plan sta
       let numbered : length numbers ≡ length reads = there-counted state reads numbers there in
       ext_get_or [] tubes (named state reads numbers) (counted ∙ sym (named-counted state reads numbers numbered))
       (λ p m. r.read p (omega arith) ∙ sym (named-at state reads numbers p numbered (omega arith)))
+
+-- tubes of one shape have the same bands before their first difference
+pub same-before : (A B : Tube) (t c : ℕ) → HasShapeOf A B → IsFirstDifference A B t c → AreSameTicks t A B
+same-before A B t c shape found q m =
+    let counted : length (at A q) ≡ length (at B q) =
+    sym (get_or-map length A q []) ∙ ap (λ counts. slice_index_or counts q 0) shape ∙ get_or-map length B q [] in
+    ext_get_or (point (pos 0)) (at A q) (at B q) counted (λ d l. found.first q d (omega (arith, found.tick)) l (inl m))
+
+-- the bands of inputs at a tick are those of others that have the same at each port
+pub same-row : (tubes others : List Tube) (t : ℕ) → length tubes ≡ length others →
+    ((p : ℕ) → at (slice_index_or tubes p []) t ≡ at (slice_index_or others p []) t) → row_of tubes t ≡ row_of others t
+same-row [] [] t e h = refl
+same-row [] (other ∷ others) t e h = absurd (omega arith)
+same-row (tube ∷ tubes) [] t e h = absurd (omega arith)
+same-row (tube ∷ tubes) (other ∷ others) t e h =
+    ap (λ bands. bands ++ row_of tubes t) (h 0)
+    ∙ ap (λ bands. at other t ++ bands) (same-row tubes others t (omega arith) (λ p. h (suc p)))
+
+-- the tubes at each port have the same bands at the ticks below n
+abbrev pub AreSamePorts : ℕ → List Tube → List Tube → Type 0
+AreSamePorts n tubes others = (p : ℕ) → AreSameTicks n (slice_index_or tubes p []) (slice_index_or others p [])
+
+-- where another tube is read, they have so below the tick at which it differs
+pub same-read : (n m k : ℕ) (tubes others : List Tube) (i : ℕ) (tube : Tube) → k ≤ n → k ≤ m → i < length others →
+    AreSamePorts n tubes others → AreSameTicks m (slice_index_or others i []) tube →
+    AreSamePorts k tubes (slice_set others i tube)
+same-read n m k tubes others i tube below least l same read p t q = elim (cases_eq p i) [
+  | inl e ↦ same p t (omega arith) ∙ ap (λ j. at (slice_index_or others j []) t) e ∙ read t (omega arith)
+      ∙ ap (λ found. at found t) (sym (get_or-set_same others i tube [] l))
+      ∙ ap (λ j. at (slice_index_or (slice_set others i tube) j []) t) (sym e)
+  | inr ne ↦ same p t (omega arith) ∙ ap (λ found. at found t) (sym (get_or-set_other others i p tube [] ne))
+]
 
 -- a stream with versions is there
 pub stream-there : (state : Versions) (s k : ℕ) → k < length (versions_of state s) → s < length state

@@ -1,6 +1,8 @@
 -- Words of the proofs: a reader of the contracts needs none of them.
 -- Room for the renewals of each unit of a plan, and the numbers of versions that are remembered.
-use Rattle.std.specs.Prelude.{◌≡◌, ◌<◌, ◌^◌, ℕ, true, List, [], length, slice_index_or, Option, Some, None}
+use Rattle.std.specs.Prelude.{◌≡◌, ◌<◌, ◌^◌, ℕ, true, List, [], length, slice_index_or}
+use Rattle.std.specs.Prelude.{Option, Some, None, IfSome}
+use Rattle.relaxation.specs.Tube.{Tube, at}
 use Rattle.relaxation.specs.Core.{Versions, versions_of, named, AreThere, IsLegal, is_idle}
 use Rattle.plant_streams.specs.Streams.{streams_of}
 use Rattle.plant_units.specs.Units.{units_of}
@@ -10,13 +12,22 @@ use Rattle.relax_core.specs.Board.{BoardOf, IsBoard}
 use Rattle.relax_core.specs.Order.{IsOrder}
 use Rattle.relax_core.specs.declared.room.Room.{Room}
 
--- the unit may be renewed in it
+-- the unit may be renewed in it; where it was, the outputs are its renewal from the inputs
 pub record IsRoomFor (plan : PlanOf) (u : ℕ) (room : Room) : Type 0 where
   pub inputs : AreOpened plan (planned plan u).reads room.inputs
   pub outputs : HasRoomFor plan u room.outputs
+  pub renewed : IfSome room.renewed (λ _. room.outputs ≡ renewal_of plan u room.inputs)
 
 abbrev pub no_room : Room
 no_room = record { inputs = []; outputs = record { ports = []; states = [] }; renewed = None }
+
+-- the room with these tubes read in
+abbrev pub reads_in : Room → List Tube → Room
+reads_in room tubes = record { inputs = tubes; outputs = room.outputs; renewed = room.renewed }
+
+-- two tubes have the same bands at the ticks below n
+abbrev pub AreSameTicks : ℕ → Tube → Tube → Type 0
+AreSameTicks n A B = (t : ℕ) → t < n → at A t ≡ at B t
 
 -- there is room for each unit
 pub record HasRooms (plan : PlanOf) (rooms : List Room) : Type 0 where

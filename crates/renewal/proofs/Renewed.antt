@@ -1,5 +1,5 @@
 -- A renewal that is made tick by tick.
-use Rattle.std.proofs.Common.{◌≡◌, ◌∙◌, ℕ, suc, ◌+◌, ◌<◌, ◌≤◌, List, [], length, map, sym, subst, ap, arith, inl, inr}
+use Rattle.std.proofs.Common.{◌≡◌, ◌∙◌, ℕ, suc, ◌+◌, ◌<◌, ◌≤◌, List, [], length, map, refl, sym, subst, ap, arith, inl, inr}
 use Rattle.std.proofs.Common.{get_or-set_other}
 use Rattle.std.specs.Prelude.{slice_index_or, slice_set}
 use Rattle.std.proofs.lemmas.Bool.{cases_eq}
@@ -11,8 +11,11 @@ use Rattle.quant.specs.Ports.{outputs}
 use Rattle.quant.proofs.Calls.{inside-length}
 use Rattle.flowsheet.specs.Reading.{on_bands, shown, stepped}
 use Rattle.flowsheet.specs.Renewal.{renewed, renewed_states}
+use Rattle.flowsheet.proofs.Readings.{same-kept}
 use Rattle.relaxation.specs.Tube.{Tube, at}
 use Rattle.relaxation.specs.Window.{row_of, renewal}
+use Rattle.relaxation.proofs.Renewing.{states-related, shown-related}
+use Rattle.relaxation.proofs.Ticks.{at-tube_of}
 use Rattle.plant_units.specs.declared.units.Unit.{Unit}
 use Rattle.plant_units.specs.Units.{state_limits_of}
 use Rattle.plant_units.specs.Steps.{views, steps}
@@ -20,13 +23,50 @@ use Rattle.plant_units.proofs.AllKinds.{steps-inside, states-few, ports-alike}
 use Rattle.plant.specs.PlantOf.{plant_of}
 use Rattle.plant.proofs.Showing.{shown_rows, views-rows}
 use Rattle.renewal.specs.Plan.{PlanOf, carried_into, window_of}
-use Rattle.renewal.specs.Room.{planned, RenewalOf, HasRoomFor, renewal_of}
+use Rattle.renewal.specs.Room.{planned, RenewalOf, HasRoomFor, HoldsRenewal, renewal_of}
 use Rattle.renewal.specs.Ticks.{spread_at, AreFilled, IsRenewed, port_in}
 use Rattle.renewal.specs.Giver.{IsGiver}
 use Rattle.renewal.proofs.Givers.{states-limited, steps-are, state-limits-are, output-limits-are}
 use Rattle.renewal.proofs.Givers.{views-are, shown-are, shown-wide, shown-counted}
 use Rattle.renewal.proofs.Shapes.{shape-ticks, shape-wide, shapes-at, shapes-counted, same-tube}
 use Rattle.renewal.proofs.Spread.{AreFit, fit-each, fit-filled, fit-at, fit-shape, shape-set}
+
+-- the bands that are read are the plan's
+pub carried-is : (plan : PlanOf) (u : ℕ) (rows : List (List Interval)) (bands : List Interval) → rows ≡ plan.carried →
+    bands ≡ slice_index_or rows u [] → bands ≡ carried_into plan u
+carried-is plan u rows bands e is = is ∙ ap (λ (units : List (List Interval)). slice_index_or units u []) e
+
+-- a renewal from tubes that have the same rows below n is this unit's up to n
+module _ (plan : PlanOf) (u n : ℕ) (tubes : List Tube) (made : RenewalOf) (few : n ≤ plan.ticks)
+    (holds : HoldsRenewal plan u tubes n made) where
+  before-shown : (p t : ℕ) → p < length made.ports → t < n → at (port_in made p) t
+      ≡ renewed (on_bands (plant_of plan.parts)) (planned plan u) p (carried_into plan u) (row_of tubes) t
+  before-shown p t l m =
+      let count : ℕ = length (planned plan u).view in
+      let counted : length made.ports ≡ count =
+      ap (λ (room : RenewalOf). length room.ports) holds.renewed
+      ∙ length-map-range_with_len (λ q. renewal (window_of plan) u q holds.before) 0 count in
+      ap (λ (room : RenewalOf). at (port_in room p) t) holds.renewed
+      ∙ ap (λ (tube : Tube). at tube t)
+      (get_or-map-range_with_len (λ q. renewal (window_of plan) u q holds.before) 0 count p p [] (omega arith)
+      (omega arith))
+      ∙ at-tube_of (renewed (on_bands (plant_of plan.parts)) (planned plan u) p (carried_into plan u)
+      (row_of holds.before)) plan.ticks t (omega arith)
+      ∙ shown-related (same-kept (on_bands (plant_of plan.parts))) (planned plan u) (carried_into plan u)
+      (carried_into plan u) (row_of holds.before) (row_of tubes) refl p t (λ q k. holds.same q (omega arith))
+      (λ i. holds.same t m)
+
+  before-stepped : (t : ℕ) → t ≤ n → at made.states t
+      ≡ renewed_states (on_bands (plant_of plan.parts)) (planned plan u) (carried_into plan u) (row_of tubes) t
+  before-stepped t m =
+      ap (λ (room : RenewalOf). at room.states t) holds.renewed
+      ∙ at-tube_of (renewed_states (on_bands (plant_of plan.parts)) (planned plan u) (carried_into plan u)
+      (row_of holds.before)) (plan.ticks + 1) t (omega arith)
+      ∙ states-related (same-kept (on_bands (plant_of plan.parts))) (planned plan u) (carried_into plan u)
+      (carried_into plan u) (row_of holds.before) (row_of tubes) refl t (λ q k. holds.same q (omega arith))
+
+  pub renewed-before : HasRoomFor plan u made → IsRenewed plan u tubes n made
+  renewed-before room = record { shape = room; shown = before-shown; stepped = before-stepped }
 
 module _ (plan : PlanOf) (u : ℕ) (x : Unit) (g : IsGiver plan u x) where
   -- how many ticks and channels there are

@@ -1,5 +1,5 @@
 -- The tubes that a renewal reads, and what it gives.
-use Rattle.std.specs.Prelude.{◌≡◌, ℕ, ◌+◌, List, [], ◌∷◌, length, map, replicate}
+use Rattle.std.specs.Prelude.{◌≡◌, ℕ, ◌+◌, ◌<◌, List, [], ◌∷◌, length, map, replicate}
 use Rattle.std.specs.List.{range_with_len}
 use Rattle.flowsheet.specs.Plant.{PlantUnit, unit_at}
 use Rattle.flowsheet.specs.Reading.{on_bands}
@@ -37,3 +37,13 @@ pub record HasRoomFor (plan : PlanOf) (u : ℕ) (room : RenewalOf) : Type 0 wher
   pub ports_shape : map (map length) room.ports
       ≡ map (λ limits. replicate plan.ticks (length limits)) (planned plan u).output_limits
   pub states_shape : map length room.states ≡ replicate (plan.ticks + 1) (length (planned plan u).state_limits)
+
+-- tubes that have the same bands at the ticks below n
+abbrev pub AreSameBelow : ℕ → List Tube → List Tube → Type 0
+AreSameBelow n tubes others = (t : ℕ) → t < n → row_of tubes t ≡ row_of others t
+
+-- it holds a renewal of the unit, from tubes that have the same bands as these at the ticks below n
+pub record HoldsRenewal (plan : PlanOf) (u : ℕ) (tubes : List Tube) (n : ℕ) (room : RenewalOf) : Type 0 where
+  pub before : List Tube
+  pub renewed : room ≡ renewal_of plan u before
+  pub same : AreSameBelow n before tubes

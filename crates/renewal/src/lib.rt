@@ -14,5 +14,5 @@ pub use ends::carry;
 pub use laws::{tubes_stay_opened, windows_are_open, windows_carry_the_run, windows_keep_limits};
 pub use opening::opening_tube;
 pub use plan::WindowPlan;
-pub use renewing::renew;
+pub use renewing::{renew, renew_from};
 pub use rooms::{Inputs, Outputs};

@@ -5,7 +5,7 @@ ghost use Rattle.std.specs.List.{AllByRecursion};
 ghost use Rattle.relaxation.specs.Tube.{Tube};
 ghost use Rattle.relaxation.specs.Window.{row_of};
 ghost use Rattle.plant_units.specs.Units.{units_of};
-ghost use Rattle.renewal.specs.Room.{planned, AreOpened, HasRoomFor, renewal_of};
+ghost use Rattle.renewal.specs.Room.{planned, AreOpened, HasRoomFor, HoldsRenewal, renewal_of};
 ghost use Rattle.renewal.specs.Ticks.{IsRenewed};
 
 use crate::plan::WindowPlan;
@@ -57,6 +57,23 @@ fn renew_tick(
     outputs.step(giver, tick, &ins[..count], new);
 }
 
+/// Renews one unit at the ticks from `from` on, where it is renewed at those before.
+fn renew_ticks(plan: &WindowPlan<'_>, unit: u32, inputs: &Inputs, from: u32, outputs: &mut Outputs)
+    requires unit { unit < length (units_of plan.now.parts) }
+    requires inputs { AreOpened plan.now (planned plan.now unit).reads inputs.now }
+    requires from { from ≤ plan.now.ticks }
+    requires renewed { IsRenewed plan.now unit inputs.now from outputs.old }
+    ensures renewal { outputs.new ≡ renewal_of plan.now unit inputs.now }
+    ensures room { HasRoomFor plan.now unit outputs.new }
+{
+    let states = plan.carried().unit(unit).len();
+    let mut room = [Band::point(0); STATES];
+    let new = &mut room[..states];
+    for tick in from..plan.ticks() {
+        renew_tick(plan, unit, inputs, tick, new, outputs);
+    }
+}
+
 /// Renews one unit over the window from these tubes of the streams that it reads: it starts from the bands that are
 /// carried into its states, shows its outputs at each tick, and steps its states by the inputs of that tick. It takes
 /// no memory.
@@ -67,11 +84,26 @@ pub fn renew(plan: &WindowPlan<'_>, unit: u32, inputs: &Inputs, outputs: &mut Ou
     ensures renewal { outputs.new ≡ renewal_of plan.now unit inputs.now }
     ensures room { HasRoomFor plan.now unit outputs.new }
 {
-    let carried = plan.carried().unit(unit);
-    let mut room = [Band::point(0); STATES];
-    let new = &mut room[..carried.len()];
-    outputs.carry(carried);
-    for tick in 0..plan.ticks() {
-        renew_tick(plan, unit, inputs, tick, new, outputs);
-    }
+    outputs.carry(plan.carried().unit(unit));
+    renew_ticks(plan, unit, inputs, 0, outputs);
+}
+
+/// Renews one unit from tick `from` on, where its outputs hold a renewal from inputs that have the same bands before
+/// that tick: they then hold the renewal over the whole window. It takes no memory.
+pub fn renew_from(
+    plan: &WindowPlan<'_>,
+    unit: u32,
+    inputs: &Inputs,
+    from: u32,
+    outputs: &mut Outputs,
+)
+    requires unit { unit < length (units_of plan.now.parts) }
+    requires inputs { AreOpened plan.now (planned plan.now unit).reads inputs.now }
+    requires room { HasRoomFor plan.now unit outputs.old }
+    requires renewed { HoldsRenewal plan.now unit inputs.now from outputs.old }
+    requires from { from ≤ plan.now.ticks }
+    ensures renewal { outputs.new ≡ renewal_of plan.now unit inputs.now }
+    ensures room { HasRoomFor plan.now unit outputs.new }
+{
+    renew_ticks(plan, unit, inputs, from, outputs);
 }

@@ -13,6 +13,7 @@ returns c =
         inputs = subst (λ (tubes : List Tube). AreOpened plan reads tubes) (sym c.in_ok-inputs.ensures)
             (opening-opened plan reads);
         outputs = c.in_ok-outputs.ensures;
+        renewed = tt;
       };
       none = refl;
     }
