@@ -31,7 +31,7 @@ use Rattle.flow_top.specs.Stands.{Said, SaidMemory, SaidStop}
 use Rattle.flow_top.specs.Causes.{IsEndOn, refusal, course, IsAtWork, WroteSome, WroteFront, SaysRefusal, CauseSaid, Cause, AnswersOr, AnswersUnlessRead, AnswersUnlessFailed}
 use Rattle.flow_top.proofs.Judging.{judgement-unique}
 use Rattle.flow_top.specs.WindowsCourse.{wide_fault}
-use Rattle.flow_top.proofs.Courses.{AreOne, AreFound, work-agrees, course-stops, work-exists, wide_status}
+use Rattle.flow_top.proofs.Courses.{AreOne, AreFound, work-agrees, course-stops, stops-by-width, work-exists, wide_status}
 
 -- the refusals of a text are refusals
 text-refused : (fault : TextFault) → own_status (fault_of_text fault) ≡ status.Refused
@@ -153,8 +153,8 @@ end-unique unique command bytes one other (course parts c k w d) (refusal f j e)
     absurd (cc (judgement-unique bytes (Err f) (Ok parts) j k))
 end-unique unique command bytes one other (course p a j w e) (course q b k v d) =
     let same : q ≡ p = cc (judgement-unique bytes (Ok q) (Ok p) k j) in
-    let moved : IsWork command p b = subst (λ parts. IsWork command parts b) same v in
-    e ∙ (work-agrees unique command p a b w.follows moved.follows).stop ∙ sym d
+    let moved : IsWork command p None b = subst (λ parts. IsWork command parts None b) same v in
+    e ∙ (work-agrees unique command p None a b w.follows moved.follows).stop ∙ sym d
 
 -- what was said of a stop is answered by its status, or by one that the error line explains
 own_or : (stop : Stop) (err : SinkUse) (result : Status) → SaidStop stop err result → AnswersOr stop.status err result
@@ -212,7 +212,7 @@ module _ (words : List (List ℕ)) (plant : SourceUse) (sinks : Sinks) (err : Si
 
   -- a command at work on the plant
   abbrev at_work : (command : Command) (parts : FileParts) (c : Course) → command_in words ≡ Ok command → SaysParts plant parts →
-      IsWork command parts c → IsAtWork words plant
+      IsWork command parts None c → IsAtWork words plant
   at_work command parts c a says work = record {
     command = command;
     parts = parts;
@@ -225,13 +225,13 @@ module _ (words : List (List ℕ)) (plant : SourceUse) (sinks : Sinks) (err : Si
 
   -- the cause at the end of a course
   by_course : (end : Option Stop) (command : Command) (parts : FileParts) (c : Course) → command_in words ≡ Ok command →
-      SaysParts plant parts → IsWork command parts c → Stood c c.windows sinks → c.stop ≡ end →
+      SaysParts plant parts → IsWork command parts None c → Stood c c.windows sinks → c.stop ≡ end →
       Said (course_end end) err result → Cause result words plant sinks err
   by_course None command parts c a says work stood e said =
       subst (λ r. Cause r words plant sinks err) (sym said.1)
       (record { at = at_work command parts c a says work; whole = e; output = stood.output; trace = stood.trace }, said.0)
   by_course (Some stop) command parts c a says work stood e said =
-      let stops = course-stops command parts c stop work.follows e in
+      let stops = stops-by-width command parts c.windows stop (course-stops command parts None c stop work.follows e) in
       let fault = wide_fault parts stops.place in
       let status_is : stop.status ≡ status.Wide = ap (λ (s : Stop). s.status) stops.stop_is ∙ wide_status command parts stops.place in
       by_stop stop said (λ to g. subst (λ s. CauseSaid s words plant sinks to) (sym status_is) (record {
@@ -330,7 +330,7 @@ module _ (words : List (List ℕ)) (plant : SourceUse) (sinks : Sinks) (err : Si
 
   module _ (unique : AreOne) (command : Command) (bytes : List ℕ) (told : plant.text ≡ Some bytes) where
     -- the end on the text of a course, and of a refusal
-    course_end_on : (parts : FileParts) (c : Course) → SaysParts plant parts → IsWork command parts c →
+    course_end_on : (parts : FileParts) (c : Course) → SaysParts plant parts → IsWork command parts None c →
         IsEndOn command bytes c.stop
     course_end_on parts c says work =
         course parts c (at_text plant.text bytes (λ text. IsJudged text (Ok parts)) told says.text) work refl
@@ -451,4 +451,4 @@ pub end-exists : AreFound → (command : Command) (bytes : List ℕ) (judgement 
     (end : Option Stop) × IsEndOn command bytes end
 end-exists find command bytes (Err fault) j = (Some (stop_by command fault), refusal fault j refl)
 end-exists find command bytes (Ok parts) j =
-    let work = work-exists find command parts (judged-plant bytes parts j) in (work.0.stop, course parts work.0 j work.1 refl)
+    let work = work-exists find command parts None (judged-plant bytes parts j) in (work.0.stop, course parts work.0 j work.1 refl)

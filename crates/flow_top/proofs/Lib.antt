@@ -1,6 +1,7 @@
 pub mod Judging
 pub mod Readings
 pub mod Writes
+pub mod Refusals
 pub mod Courses
 pub mod Options
 pub mod Pairs

@@ -1,7 +1,6 @@
 -- The band that stops a run is the first of the whole run that is wider than was asked.
-use Rattle.std.proofs.Common.{◌≡◌, inl, inr, ℕ, zero, suc, ◌+◌, ◌-◌, ◌*◌, ◌<◌, ◌≤◌, min, Some, None, subst, arith}
+use Rattle.std.proofs.Common.{◌≡◌, inl, inr, ℕ, zero, suc, ◌+◌, ◌-◌, ◌*◌, ◌<◌, ◌≤◌, min, List, Option, Some, None, subst, arith}
 use Rattle.parts.specs.Parts.{FileParts}
-use Rattle.plant.specs.Rows.{streams_of_run}
 use Rattle.window_accept.specs.declared.wide.TooWide.{TooWide}
 use Rattle.window_accept.specs.Wide.{IsTooWide, IsSooner, AreNarrowEnough, IsFirstWide}
 use Rattle.flow_top.specs.declared.words.Command.{Command}
@@ -9,7 +8,7 @@ use Rattle.flow_top.specs.declared.words.Command.TheVariants.{Run, Direct, Check
 use Rattle.flow_top.specs.declared.fault.Stop.{Stop}
 use Rattle.flow_top.specs.Course.{Course}
 use Rattle.flow_top.specs.Courses.{IsCourse, WritesRun}
-use Rattle.flow_top.specs.WindowsCourse.{first_tick, ticks_in, IsWindowCount, IsNarrowEnough}
+use Rattle.flow_top.specs.WindowsCourse.{bands_by, first_tick, ticks_in, IsWindowCount, IsAccepted}
 use Rattle.flow_top.proofs.Courses.{compare_le}
 use Rattle.flow_top.proofs.RunRows.{one-more, counted}
 
@@ -49,21 +48,21 @@ window-at parts (suc n) tick h l = elim (compare_le (first_tick parts n) tick) [
 ]
 
 -- no band at the ticks of windows that are narrow enough is wider than was asked
-narrow-before : (parts : FileParts) (n : ℕ) → ((w : ℕ) → w < n → IsNarrowEnough parts w) → (place : TooWide) →
-    place.tick < first_tick parts n → place.tick < parts.ticks → IsTooWide parts (streams_of_run parts) place → ⊥
-narrow-before parts n narrow place before inside wide =
+narrow-before : (parts : FileParts) (records : Option (List ℕ)) (n : ℕ) → ((w : ℕ) → w < n → IsAccepted parts records w) → (place : TooWide) →
+    place.tick < first_tick parts n → place.tick < parts.ticks → IsTooWide parts (bands_by parts records) place → ⊥
+narrow-before parts records n accepted place before inside wide =
     let lies = window-at parts n place.tick before inside in
-    narrow lies.window lies.there place (lies.begun, lies.unended) wide
+    (accepted lies.window lies.there).narrow place (lies.begun, lies.unended) wide
 
 below-all : (tick ticks most : ℕ) → tick < 0 + ticks → ticks ≤ most → (tick < most) × (tick < ticks)
 below-all tick ticks most h l = (omega arith, omega arith)
 
 -- so no band of the run is, where these windows have all its ticks
-all-narrow : (parts : FileParts) (n : ℕ) → ((w : ℕ) → w < n → IsNarrowEnough parts w) → IsWindowCount parts n →
-    AreNarrowEnough parts (streams_of_run parts) 0 parts.ticks
-all-narrow parts n narrow count place among wide =
+all-narrow : (parts : FileParts) (records : Option (List ℕ)) (n : ℕ) → ((w : ℕ) → w < n → IsAccepted parts records w) → IsWindowCount parts n →
+    AreNarrowEnough parts (bands_by parts records) 0 parts.ticks
+all-narrow parts records n accepted count place among wide =
     let below = below-all place.tick parts.ticks (first_tick parts n) among.1 count.enough in
-    narrow-before parts n narrow place below.0 below.1 wide
+    narrow-before parts records n accepted place below.0 below.1 wide
 
 -- a sooner place is at no later tick
 no-later : (a b : TooWide) → IsSooner a b → a.tick ≤ b.tick
@@ -77,10 +76,10 @@ up-to : (a b c : ℕ) → a ≤ b → b < c → a < c
 up-to a b c h l = omega arith
 
 -- what is first in a window after those that are narrow enough, is first in the run
-first-of-run : (parts : FileParts) (n : ℕ) → ((w : ℕ) → w < n → IsNarrowEnough parts w) → (place : TooWide) →
-    IsFirstWide parts (streams_of_run parts) (first_tick parts n) (ticks_in parts n) place →
-    IsFirstWide parts (streams_of_run parts) 0 parts.ticks place
-first-of-run parts n narrow place first =
+first-of-run : (parts : FileParts) (records : Option (List ℕ)) (n : ℕ) → ((w : ℕ) → w < n → IsAccepted parts records w) → (place : TooWide) →
+    IsFirstWide parts (bands_by parts records) (first_tick parts n) (ticks_in parts n) place →
+    IsFirstWide parts (bands_by parts records) 0 parts.ticks place
+first-of-run parts records n accepted place first =
     let first_at = first_tick parts n in
     record {
       among = (
@@ -92,23 +91,23 @@ first-of-run parts n narrow place first =
         | inl l ↦ first.sooner other
             (l, up-to other.tick place.tick (first_at + ticks_in parts n) (no-later other place before) first.among.1)
             wide before
-        | inr l ↦ narrow-before parts n narrow other l (omega (arith, among.1)) wide
+        | inr l ↦ narrow-before parts records n accepted other l (omega (arith, among.1)) wide
       ];
     }
 
 -- of the commands
-pub run-narrow : (command : Command) (parts : FileParts) (course : Course) → WritesRun command → IsCourse command parts course →
-    course.stop ≡ None → AreNarrowEnough parts (streams_of_run parts) 0 parts.ticks
-run-narrow Run parts course writes is whole =
-    all-narrow parts course.windows is.narrow (counted Run parts course.windows course.stop is.stop whole)
-run-narrow Direct parts course writes is whole =
-    all-narrow parts course.windows is.narrow (counted Direct parts course.windows course.stop is.stop whole)
-run-narrow Check parts course writes is whole = absurd writes
+pub run-narrow : (command : Command) (parts : FileParts) (records : Option (List ℕ)) (course : Course) → WritesRun command →
+    IsCourse command parts records course → course.stop ≡ None → AreNarrowEnough parts (bands_by parts records) 0 parts.ticks
+run-narrow Run parts records course writes is whole =
+    all-narrow parts records course.windows is.accepted (counted Run parts records course.windows course.stop is.stop whole)
+run-narrow Direct parts records course writes is whole =
+    all-narrow parts records course.windows is.accepted (counted Direct parts records course.windows course.stop is.stop whole)
+run-narrow Check parts records course writes is whole = absurd writes
 
-pub run-first : (command : Command) (parts : FileParts) (course : Course) (stop : Stop) → IsCourse command parts course →
-    course.stop ≡ Some stop → (place : TooWide) →
-    IsFirstWide parts (streams_of_run parts) (first_tick parts course.windows) (ticks_in parts course.windows) place →
-    IsFirstWide parts (streams_of_run parts) 0 parts.ticks place
-run-first Run parts course stop is e place first = first-of-run parts course.windows is.narrow place first
-run-first Direct parts course stop is e place first = first-of-run parts course.windows is.narrow place first
-run-first Check parts course stop is e place first = absurd (cc (is.stop, e))
+pub run-first : (command : Command) (parts : FileParts) (records : Option (List ℕ)) (course : Course) (stop : Stop) →
+    IsCourse command parts records course → course.stop ≡ Some stop → (place : TooWide) →
+    IsFirstWide parts (bands_by parts records) (first_tick parts course.windows) (ticks_in parts course.windows) place →
+    IsFirstWide parts (bands_by parts records) 0 parts.ticks place
+run-first Run parts records course stop is e place first = first-of-run parts records course.windows is.accepted place first
+run-first Direct parts records course stop is e place first = first-of-run parts records course.windows is.accepted place first
+run-first Check parts records course stop is e place first = absurd (cc (is.stop, e))

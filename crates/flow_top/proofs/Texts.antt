@@ -1,33 +1,37 @@
 -- The texts of a window, from what was made of it.
-use Rattle.std.proofs.Common.{◌≡◌, ◌∙◌, ℕ, ◌+◌, ◌-◌, ◌*◌, ◌<◌, ◌≤◌, min, List, [], length, slice_index_or, refl, sym, ap, subst, arith, Bool, true, false, Option, Some, None}
-use Rattle.std.proofs.Common.{◌⊎◌, inl, inr, zero, suc, ℤ, ◌∷◌, Result, Err}
-use Rattle.quant.specs.Interval.{Interval}
-use Rattle.parts.specs.declared.parts.Widths.{Widths}
-use Rattle.tables.specs.Output.{channels}
-use Rattle.feeds.specs.Reader.{ReaderOf}
-use Rattle.window_accept.specs.declared.wide.TooWide.{TooWide}
-use Rattle.window_accept.specs.Wide.{asked_of, is_signal, IsTooWide, IsFirstWide}
-use Rattle.flow_top.specs.declared.fault.End.{End}
-use Rattle.flow_top.specs.declared.fault.End.TheVariants.{Stopped, NoMemory}
-use Rattle.flow_top.specs.Faults.{stop_by}
+use Rattle.std.proofs.Common.{◌≡◌, ◌∙◌, ◌⊎◌, inl, inr, ℕ, zero, suc, ◌+◌, ◌-◌, ◌*◌, ◌<◌, ◌≤◌, min, List, [], ◌∷◌, length, slice_index_or, refl, sym, ap, subst, arith}
+use Rattle.std.proofs.Common.{Bool, true, false, Option, Some, None, ℤ, Result, Ok, Err}
 use Rattle.std.proofs.lemmas.List.{length-map}
+use Rattle.quant.specs.Interval.{Interval}
+use Rattle.flow_edge.specs.Faults.{Rose}
 use Rattle.relaxation.specs.Tube.{at}
 use Rattle.parts.specs.Parts.{FileParts}
+use Rattle.parts.specs.declared.parts.Widths.{Widths}
 use Rattle.plant_streams.specs.Streams.{streams_of}
-use Rattle.plant.specs.Rows.{streams_of_run}
-use Rattle.feeds.specs.Given.{run_plan}
-use Rattle.tables.specs.Output.{rows_of}
+use Rattle.tables.specs.Output.{channels, rows_of}
+use Rattle.feeds.specs.declared.reader.FeedFault.{FeedFault}
+use Rattle.feeds.specs.declared.reader.FeedFault.TheVariants.{ReadFault}
+use Rattle.feeds.specs.Given.{run_plan, given_by, refusal_by}
+use Rattle.feeds.specs.Reader.{IsFailure}
+use Rattle.feeds.specs.ReaderOf.{ReaderOf, Feeding}
 use Rattle.relax_core.specs.Settled.{WindowOf, bands_in}
 use Rattle.report.specs.Output.{labels_of, output_rows}
-use Rattle.report.specs.Trace.{names_of, trace_rows}
+use Rattle.window_accept.specs.declared.wide.TooWide.{TooWide}
 use Rattle.window_accept.specs.declared.end.WindowEnd.{WindowEnd}
-use Rattle.window_accept.specs.Session.{SessionOf, next_ticks, IsMadeBy, HasRunAt, NextWindow}
+use Rattle.window_accept.specs.declared.end.WindowEnd.TheVariants.{Wide}
+use Rattle.window_accept.specs.Wide.{asked_of, is_signal, IsTooWide, IsFirstWide}
+use Rattle.window_accept.specs.Session.{SessionOf, next_ticks, next_plan, bands_of_plan, IsReady, IsAlong, IsMadeBy, HasRunAt, NextWindow}
 use Rattle.window_accept.specs.Session as session
-use Rattle.flow_top.specs.WindowsCourse.{first_tick, ticks_in, window_rows, wide_fault}
+use Rattle.flow_top.specs.declared.fault.End.{End}
+use Rattle.flow_top.specs.declared.fault.End.TheVariants.{Stopped, NoMemory}
 use Rattle.flow_top.specs.declared.words.Command.{Command}
 use Rattle.flow_top.specs.declared.words.Command.TheVariants.{Run, Direct, Check}
-use Rattle.flow_top.specs.Steps.{AreSteps, WritesBy, traces, TextsEnded}
+use Rattle.flow_top.specs.declared.windows.Texts.{Texts}
+use Rattle.flow_top.specs.Faults.{fault_of_feeds, stop_by}
+use Rattle.flow_top.specs.WindowsCourse.{bands_by, first_tick, ticks_in, end_of, window_rows, wide_fault, refused, wide}
+use Rattle.flow_top.specs.Steps.{AreSteps, AreTexts, steps_text, AreTextsOf, HasMoved, IsReadWith, WritesBy, traces, TextsEnded, end_by_feeds}
 use Rattle.flow_top.proofs.PlantRows.{label_of, rows-same}
+use Rattle.flow_top.proofs.Refusals.{record-refused}
 
 one-more : (k window : ℕ) → (k + 1) * window ≡ k * window + window
 one-more k window = grind arith
@@ -39,29 +43,35 @@ tick-is : (t start first : ℕ) → start ≡ first → first + t - start ≡ t
 tick-is t start first e = omega (arith, e)
 
 -- the rows of a window of the run
-pub rows-are : (parts : FileParts) (w : ℕ) (window : WindowOf) (rows : List ℕ) →
-    HasRunAt parts (first_tick parts w) (ticks_in parts w) window → rows ≡ output_rows parts window → rows ≡ window_rows parts w
-rows-are parts w window rows is r =
+rows-are : (parts : FileParts) (records : Option (List ℕ)) (w : ℕ) (window : WindowOf) →
+    HasRunAt parts records (first_tick parts w) (ticks_in parts w) window → output_rows parts window ≡ window_rows parts records w
+rows-are parts records w window is =
     let first = first_tick parts w in
     let n = ticks_in parts w in
-    r ∙ ap (λ first. rows_of (labels_of parts) (bands_in window) first window.ticks) is.first_is
+    ap (λ first. rows_of (labels_of parts) (bands_in window) first window.ticks) is.first_is
     ∙ ap (rows_of (labels_of parts) (bands_in window) first) is.ticks_are
-    ∙ rows-same (labels_of parts) (bands_in window) (streams_of_run parts) first n
+    ∙ rows-same (labels_of parts) (bands_in window) (bands_by parts records) first n
     (λ t s l m.
     let there : s < length (streams_of parts) = omega (arith, m, length-map (streams_of parts) label_of) in
     ap (λ q. at (slice_index_or window.tubes s []) q) (tick-is t window.first first is.first_is)
     ∙ is.run t s l there)
 
 -- the rows of its steps, where it was relaxed; and none, where it was stepped
-pub steps-made : (relaxed : Bool) (parts : FileParts) (w : ℕ) (window : WindowOf) (text : List ℕ) → relaxed ≡ true →
-    IsMadeBy relaxed (run_plan parts (first_tick parts w) (ticks_in parts w)) window →
-    text ≡ trace_rows (names_of parts) w window.steps → AreSteps relaxed parts w (Some text)
-steps-made true parts w window text e made is = (window.steps, made, is)
-steps-made false parts w window text e made is = absurd (cc e)
+steps-are : (relaxes : Bool) (parts : FileParts) (records : Option (List ℕ)) (w : ℕ) (window : WindowOf) →
+    IsMadeBy relaxes (run_plan parts (given_by parts records) (first_tick parts w) (ticks_in parts w)) window →
+    AreSteps relaxes parts records w (steps_text relaxes parts w window)
+steps-are true parts records w window made = (window.steps, made, refl)
+steps-are false parts records w window made = refl
 
-pub no-steps : (relaxed : Bool) (parts : FileParts) (w : ℕ) → relaxed ≡ false → AreSteps relaxed parts w None
-no-steps true parts w e = absurd (cc e)
-no-steps false parts w e = refl
+-- the texts of a window of the run
+pub as-texts : (relaxes : Bool) (parts : FileParts) (records : Option (List ℕ)) (w : ℕ) (window : WindowOf) (texts : Texts) →
+    HasRunAt parts records (first_tick parts w) (ticks_in parts w) window →
+    IsMadeBy relaxes (run_plan parts (given_by parts records) (first_tick parts w) (ticks_in parts w)) window →
+    AreTextsOf relaxes parts w window texts → AreTexts relaxes parts records w texts
+as-texts relaxes parts records w window texts run made are = record {
+  rows_are = are.rows_are ∙ rows-are parts records w window run;
+  steps_are = subst (AreSteps relaxes parts records w) (sym are.steps_are) (steps-are relaxes parts records w window made);
+}
 
 -- a session before a window of the run that begins before the last tick
 pub at-window : (session : SessionOf) (w : ℕ) → session.tick ≡ min (first_tick session.parts w) session.parts.ticks →
@@ -80,19 +90,35 @@ at-next session tick w at left moved =
     ∙ ap (λ t. min t session.parts.ticks)
     (ap (λ t. t + session.parts.window) at ∙ sym (one-more w session.parts.window))
 
-pub run-here : (parts other : FileParts) (first start n m : ℕ) (window : WindowOf) → other ≡ parts → start ≡ first → m ≡ n →
-    HasRunAt parts start m window → HasRunAt other first n window
-run-here parts other first start n m window p s t is =
-    subst (λ parts. HasRunAt parts first n window) (sym p)
-    (subst (λ start. HasRunAt parts start n window) s (subst (λ m. HasRunAt parts start m window) t is))
+-- what is said of a session's next window is said of this one
+pub at-this : (P : ℕ → ℕ → Type 0) (session : SessionOf) (w : ℕ) →
+    (session.tick ≡ first_tick session.parts w) × (next_ticks session ≡ ticks_in session.parts w) →
+    P session.tick (next_ticks session) → P (first_tick session.parts w) (ticks_in session.parts w)
+at-this P session w here h = subst (λ n. P (first_tick session.parts w) n) here.1 (subst (λ first. P first (next_ticks session)) here.0 h)
 
-pub made-here : (relaxes relaxed : Bool) (parts other : FileParts) (first start n m : ℕ) (window : WindowOf) → relaxes ≡ relaxed →
-    other ≡ parts → start ≡ first → m ≡ n → IsMadeBy relaxes (run_plan parts start m) window → IsMadeBy relaxed (run_plan other first n) window
-made-here relaxes relaxed parts other first start n m window r p s t is =
-    subst (λ relaxes. IsMadeBy relaxes (run_plan other first n) window) r
-    (subst (λ parts. IsMadeBy relaxes (run_plan parts first n) window) (sym p)
-    (subst (λ start. IsMadeBy relaxes (run_plan parts start n) window) s
-    (subst (λ m. IsMadeBy relaxes (run_plan parts start m) window) t is)))
+-- whatever the records say, a session that gave a window is before the next one
+pub moved-on : (w : ℕ) (old new : SessionOf) (read : ReaderOf) →
+    (old.tick ≡ first_tick old.parts w) × (next_ticks old ≡ ticks_in old.parts w) → first_tick old.parts w < old.parts.ticks →
+    new.parts ≡ old.parts → new.tick ≡ old.tick + next_ticks old → new.end ≡ None → IsReady new read → read.fault ≡ None →
+    HasMoved w old new read
+moved-on w old new read here left same moved unended ready faultless = record {
+  same = same;
+  before = record {
+    tick = subst (λ (parts : FileParts). new.tick ≡ min (first_tick parts (w + 1)) parts.ticks) (sym same)
+        (at-next old new.tick w here.0 left moved);
+    unended = unended;
+    ready = ready;
+    faultless = faultless;
+  };
+}
+
+-- with the last window, the records were read to their end
+pub read-with : (relaxes : Bool) (parts : FileParts) (records : Option (List ℕ)) (old new : SessionOf) (reader read : Feeding)
+    (window : WindowOf) → ((text : List ℕ) → IsAlong (Some text) old reader → NextWindow relaxes old new reader read (Ok window) →
+    new.tick ≡ parts.ticks → read.left ≡ Some []) →
+    IsAlong records old reader → NextWindow relaxes old new reader read (Ok window) → IsReadWith parts records new read
+read-with relaxes parts None old new reader read window whole along next last = tt
+read-with relaxes parts (Some text) old new reader read window whole along next last = whole text along next last
 
 -- what a command writes goes with how its windows are made
 pub same-kind : (command : Command) (relaxes : Bool) → WritesBy command relaxes → relaxes ≡ traces command
@@ -117,35 +143,56 @@ not-none asked limit e f = cc (e, f)
 below-or : (a b : ℕ) → (a < b) ⊎ (b ≤ a)
 below-or a b = search arith
 
-pub named-channel : (parts : FileParts) (bands : ℕ → ℕ → List Interval) (wide : TooWide) → IsTooWide parts bands wide →
-    wide.channel < length (channels (is_signal parts wide.stream))
-named-channel parts bands wide is =
-    let signal = is_signal parts wide.stream in
+pub named-channel : (parts : FileParts) (bands : ℕ → ℕ → List Interval) (place : TooWide) → IsTooWide parts bands place →
+    place.channel < length (channels (is_signal parts place.stream))
+named-channel parts bands place is =
+    let signal = is_signal parts place.stream in
     let asked = asked_of parts.width signal in
-    let few : wide.channel < length asked = elim (below-or wide.channel (length asked)) [
+    let few : place.channel < length asked = elim (below-or place.channel (length asked)) [
       | inl l ↦ l
-      | inr far ↦ absurd (not-none (slice_index_or asked wide.channel None) wide.limit (past-none asked wide.channel far) is.asked)
+      | inr far ↦ absurd (not-none (slice_index_or asked place.channel None) place.limit (past-none asked place.channel far) is.asked)
     ] in
-    subst (λ n. wide.channel < n) (as-many parts.width signal) few
+    subst (λ n. place.channel < n) (as-many parts.width signal) few
 
 -- the end of a command by such a band
-pub stopped-at : (command : Command) (relaxes : Bool) (parts other : FileParts) (w first n : ℕ) (session : SessionOf) (reader : ReaderOf)
-    (place : TooWide) (end : End) → other ≡ parts → first ≡ first_tick parts w → n ≡ ticks_in parts w →
-    IsFirstWide parts (streams_of_run parts) first n place →
+pub stopped-at : (command : Command) (relaxes : Bool) (parts other : FileParts) (records : Option (List ℕ)) (w : ℕ)
+    (session : SessionOf) (feeds read : Feeding) (place : TooWide) (end : End) → other ≡ parts → first_tick parts w < parts.ticks →
+    refusal_by parts records (end_of parts w) ≡ None →
+    IsFirstWide parts (bands_by parts records) (first_tick parts w) (ticks_in parts w) place →
     (end ≡ Stopped (stop_by command (wide_fault other place))) ⊎ (end ≡ NoMemory) →
-    TextsEnded command relaxes parts w session reader (Err end)
-stopped-at command relaxes parts other w first n session reader place end p f t is (inl e) =
-    subst (λ end. TextsEnded command relaxes parts w session reader (Err end)) (sym e) (record {
-      place = place;
-      first = subst (λ first. IsFirstWide parts (streams_of_run parts) first (ticks_in parts w) place) f
-          (subst (λ n. IsFirstWide parts (streams_of_run parts) first n place) t is);
-      stop_is = ap (λ parts. stop_by command (wide_fault parts place)) p;
-    })
-stopped-at command relaxes parts other w first n session reader place end p f t is (inr e) =
-    subst (λ end. TextsEnded command relaxes parts w session reader (Err end)) (sym e) tt
+    TextsEnded command relaxes parts records w session feeds read (Err end)
+stopped-at command relaxes parts other records w session feeds read place end p left taken first (inl e) =
+    subst (λ end. TextsEnded command relaxes parts records w session feeds read (Err end))
+    (sym (e ∙ ap (λ parts. Stopped (stop_by command (wide_fault parts place))) p)) (inl (wide place left taken first))
+stopped-at command relaxes parts other records w session feeds read place end p left taken first (inr e) =
+    subst (λ end. TextsEnded command relaxes parts records w session feeds read (Err end)) (sym e) tt
+
+-- and by the fault of a reader: a refused record, a source that failed, or want of memory
+pub unfed-at : (command : Command) (relaxes : Bool) (parts : FileParts) (records : Option (List ℕ)) (w : ℕ)
+    (session : SessionOf) (feeds read : Feeding) (fault : FeedFault) → first_tick parts w < parts.ticks →
+    (refusal_by parts records (end_of parts w) ≡ Some fault) ⊎ IsFailure fault → (fault ≡ ReadFault → Rose feeds.faults read.faults) →
+    TextsEnded command relaxes parts records w session feeds read (Err (end_by_feeds command (fault_of_feeds fault)))
+unfolding fault_of_feeds
+unfed-at command relaxes parts records w session feeds read fault left (inl taken) failed =
+    let known = record-refused parts records (end_of parts w) fault taken in
+    subst (λ found. TextsEnded command relaxes parts records w session feeds read (Err (end_by_feeds command found))) (sym known.same)
+    (inl (refused fault known.fault left taken known.same))
+unfed-at command relaxes parts records w session feeds read fault left (inr (inl e)) failed =
+    subst (λ f. TextsEnded command relaxes parts records w session feeds read (Err (end_by_feeds command (fault_of_feeds f)))) (sym e)
+    (inr (record { rose = failed e; stop_is = refl }))
+unfed-at command relaxes parts records w session feeds read fault left (inr (inr e)) failed =
+    subst (λ f. TextsEnded command relaxes parts records w session feeds read (Err (end_by_feeds command (fault_of_feeds f)))) (sym e) tt
+
+-- a session that has not ended is stopped by the width of a band that is there
+pub wide-there : (relaxes : Bool) (old new : SessionOf) (reader read : Feeding) (place : TooWide) → old.end ≡ None →
+    NextWindow relaxes old new reader read (Err (Wide place)) →
+    (place.stream < length (streams_of old.parts)) × (place.channel < length (channels (is_signal old.parts place.stream)))
+wide-there relaxes old new reader read place unended (session.wide feeds found going asks first e) =
+    (first.wide_is.stream, named-channel old.parts (bands_of_plan (next_plan old feeds)) place first.wide_is)
+wide-there relaxes old new reader read place unended (session.again end ended still e) = absurd (cc (unended, ended))
 
 -- a session keeps its plant
-pub same-parts : (relaxes : Bool) (old new : SessionOf) (reader read : ReaderOf) (result : Result WindowOf WindowEnd) →
+pub same-parts : (relaxes : Bool) (old new : SessionOf) (reader read : Feeding) (result : Result WindowOf WindowEnd) →
     NextWindow relaxes old new reader read result → new.parts ≡ old.parts
 same-parts relaxes old new reader read result (session.given feeds window going asks run made narrow e) = ap (λ (s : SessionOf). s.parts) e
 same-parts relaxes old new reader read result (session.finished unended at still e) = ap (λ (s : SessionOf). s.parts) e

@@ -20,7 +20,7 @@ this-end (Ok done) end h = absurd h
 this-end (Err e) end h = ap Err h
 
 module _ (command : Command) (parts : FileParts) (course : Course) (header rows : List ℕ) (trace : SinkUse)
-    (work : IsWork command parts course) (untraced : course.trace ≡ None) (unwritten : IsUnwritten trace) where
+    (work : IsWork command parts None course) (untraced : course.trace ≡ None) (unwritten : IsUnwritten trace) where
   stood_none : (k : ℕ) → TraceStood course.trace k trace
   stood_none k = subst (λ t. TraceStood t k trace) (sym untraced) unwritten
 

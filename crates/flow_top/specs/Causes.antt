@@ -21,7 +21,7 @@ use Rattle.flow_top.specs.Ended.{TraceStood, BrokeOff}
 -- that the text says, at its stop where it has one.
 pub data IsEndOn (command : Command) (text : List ℕ) (end : Option Stop) : Type 0 where
   refusal : (fault : TopFault) → IsJudged text (Err fault) → end ≡ Some (stop_by command fault) → IsEndOn command text end
-  course : (parts : FileParts) (course : Course) → IsJudged text (Ok parts) → IsWork command parts course →
+  course : (parts : FileParts) (course : Course) → IsJudged text (Ok parts) → IsWork command parts None course →
       end ≡ course.stop → IsEndOn command text end
 
 -- the words are a command; the plant source was read to its end, and its text says a plant; and this is the command's course on it
@@ -32,7 +32,7 @@ pub record IsAtWork (words : List (List ℕ)) (plant : SourceUse) : Type 0 where
   pub asked : command_in words ≡ Ok command
   pub says : IfSome plant.text (λ bytes. IsJudged bytes (Ok parts))
   pub read : IfSome plant.text (λ _. plant.left ≡ Some [])
-  pub work : IsWork command parts course
+  pub work : IsWork command parts None course
 
 -- the whole text of a course that nothing stops was given, and a legal trace of it
 pub record WroteAll (words : List (List ℕ)) (plant : SourceUse) (sinks : Sinks) : Type 0 where

@@ -66,14 +66,14 @@ course_end (Some stop) = Err (Stopped stop)
 -- How the work of a command on a plant ends.
 pub data WorkEnded (command : Command) (parts : FileParts) (sinks : Sinks) (ending : Result (Unit {0}) End) : Type 0 where
   -- all windows of its course stand, up to the course's stop
-  through : (course : Course) → IsWork command parts course → Stood course course.windows sinks →
+  through : (course : Course) → IsWork command parts None course → Stood course course.windows sinks →
       ending ≡ course_end course.stop → WorkEnded command parts sinks ending
   -- a sink failed in the midst of the course's text, which is not empty, and of its trace
-  broken : (course : Course) (fault : TopFault) → IsWork command parts course → text_of course ≢ [] →
+  broken : (course : Course) (fault : TopFault) → IsWork command parts None course → text_of course ≢ [] →
       BrokeOff course sinks fault → ending ≡ Err (Stopped (stop_by command fault)) → WorkEnded command parts sinks ending
   -- memory ran out before anything was written, or after some windows, but for all of a course that nothing stops
   early : AreUnwritten sinks → ending ≡ Err NoMemory → WorkEnded command parts sinks ending
-  within : (course : Course) (k : ℕ) → IsWork command parts course → Stood course k sinks →
+  within : (course : Course) (k : ℕ) → IsWork command parts None course → Stood course k sinks →
       (course.stop ≡ None → k < course.windows) → ending ≡ Err NoMemory → WorkEnded command parts sinks ending
 
 -- How a command ends: without a plant, and then nothing was written; or as its work on the plant does.

@@ -1,9 +1,11 @@
 -- What goes wrong, and the status that a command gives it.
-use Rattle.std.specs.Prelude.{◌≡◌}
+use Rattle.std.specs.Prelude.{◌≡◌, Option, Some, None}
 use Rattle.flow_edge.specs.declared.status.Status.{Status}
 use Rattle.flow_edge.specs.declared.status.Status.TheVariants as status
 use Rattle.flow_file.specs.declared.fault.TextFault.{TextFault}
 use Rattle.flow_file.specs.declared.fault.TextFault.TheVariants as text
+use Rattle.feeds.specs.declared.reader.FeedFault.{FeedFault}
+use Rattle.feeds.specs.declared.reader.FeedFault.TheVariants as feed
 use Rattle.plant_checks.specs.declared.fault.PlantFault.{PlantFault}
 use Rattle.plant_checks.specs.declared.fault.PlantFault.TheVariants as plant
 use Rattle.flow_top.specs.declared.words.Command.{Command}
@@ -35,6 +37,16 @@ fault_of_plant (plant.TableFalls place) = top.TableFalls place
 fault_of_plant (plant.ColumnTooFast unit) = top.ColumnTooFast unit
 fault_of_plant (plant.InstantLoop unit) = top.InstantLoop unit
 fault_of_plant (plant.TooDeep unit) = top.TooDeep unit
+
+-- the fault of a reader of feeds among all faults, of a record that it refuses or of the source of records; none of want of memory
+unfoldable pub fault_of_feeds : FeedFault → Option TopFault
+fault_of_feeds (feed.BadRecord at) = Some (top.BadRecord at)
+fault_of_feeds (feed.UnknownPlace at) = Some (top.UnknownPlace at)
+fault_of_feeds (feed.Order at) = Some (top.Order at)
+fault_of_feeds (feed.Outside at) = Some (top.Outside at)
+fault_of_feeds (feed.TooLong at) = Some (top.FeedTooLong at)
+fault_of_feeds feed.ReadFault = Some top.ReadExtra
+fault_of_feeds feed.NoMemory = None
 
 -- a fault of a plant's text: it is too long, is not read, or its parts are no plant
 pub data IsTextFault (fault : TopFault) : Type 0 where

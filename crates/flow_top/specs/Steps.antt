@@ -1,35 +1,34 @@
 -- Words of the proofs: a reader of the contracts needs none of them.
 -- What the private steps of the call do.
-use Rattle.std.specs.Prelude.{◌≡◌, ◌+◌, ◌≤◌, min, Bool, true, false, List, ℕ, Option, Some, None, Result, Ok, Err}
+use Rattle.std.specs.Prelude.{◌≡◌, ◌≢◌, ◌⊎◌, ◌+◌, ◌<◌, ◌≤◌, min, Bool, true, false, List, [], ℕ, Option, Some, None, IfSome, Result, Ok, Err}
 use Rattle.flow_edge.specs.Faults.{Rose}
 use Rattle.parts.specs.Parts.{FileParts}
 use Rattle.plant.specs.Sound.{IsPlant}
+use Rattle.tables.specs.Steps.{trace_header}
+use Rattle.feeds.specs.ReaderOf.{ReaderOf, Feeding}
+use Rattle.feeds.specs.Standing.{IsReaderFor}
+use Rattle.relax_core.specs.Board.{RowOf}
+use Rattle.relax_core.specs.Settled.{WindowOf, Settles}
+use Rattle.report.specs.Output.{output_rows}
+use Rattle.report.specs.Trace.{names_of, trace_rows}
+use Rattle.report.specs.declared.fault.TopFault.{TopFault}
+use Rattle.report.specs.declared.fault.TopFault.TheVariants.{ReadPlant, ReadExtra, WriteOut, WriteTrace}
+use Rattle.window_accept.specs.Session.{SessionOf, IsReady, IsAlong}
 use Rattle.flow_top.specs.declared.words.Command.{Command}
+use Rattle.flow_top.specs.declared.words.Command.TheVariants.{Run, Direct, Check}
 use Rattle.flow_top.specs.declared.fault.Stop.{Stop}
 use Rattle.flow_top.specs.declared.fault.End.{End}
 use Rattle.flow_top.specs.declared.fault.End.TheVariants.{Stopped, NoMemory}
-use Rattle.report.specs.declared.fault.TopFault.{TopFault}
-use Rattle.report.specs.declared.fault.TopFault.TheVariants.{ReadPlant, WriteOut, WriteTrace}
 use Rattle.flow_top.specs.declared.fault.Unfit.{Unfit}
 use Rattle.flow_top.specs.declared.fault.Unfit.TheVariants as unfit
+use Rattle.flow_top.specs.declared.windows.Texts.{Texts}
 use Rattle.flow_top.specs.Faults.{stop_by}
 use Rattle.flow_top.specs.Judged.{Judgement}
+use Rattle.flow_top.specs.Course.{Course, text_of}
+use Rattle.flow_top.specs.Courses.{IsWork}
+use Rattle.flow_top.specs.WindowsCourse.{first_tick, window_rows, traced_in, IsAccepted, StopsAfter}
 use Rattle.flow_top.specs.Uses.{SourceUse, SinkUse, Sinks, IsUnwritten, WasGiven, Broke}
-use Rattle.flow_top.specs.Ended.{SaysParts, IsRefused}
-use Rattle.flow_top.specs.WindowsCourse.{first_tick, ticks_in, window_rows, wide_fault, IsNarrowEnough}
-use Rattle.flow_top.specs.declared.windows.Texts.{Texts}
-use Rattle.feeds.specs.Reader.{ReaderOf}
-use Rattle.window_accept.specs.declared.wide.TooWide.{TooWide}
-use Rattle.window_accept.specs.Wide.{IsFirstWide}
-use Rattle.window_accept.specs.Session.{SessionOf, IsSession, FollowsRun}
-use Rattle.flow_top.specs.declared.words.Command.TheVariants.{Run, Direct, Check}
-use Rattle.plant.specs.Rows.{streams_of_run}
-use Rattle.renewal.specs.Plan.{window_of}
-use Rattle.feeds.specs.Given.{run_plan}
-use Rattle.relax_core.specs.Board.{RowOf}
-use Rattle.relax_core.specs.Settled.{Settles}
-use Rattle.report.specs.Trace.{names_of, trace_rows}
-use Rattle.tables.specs.Steps.{trace_header}
+use Rattle.flow_top.specs.Ended.{SaysParts, IsRefused, Stood, BrokeOff, course_end}
 
 -- a fact of the judgement that was found, unless memory ran out
 abbrev pub Finds : (Judgement → Type 0) → Result FileParts Unfit → Type 0
@@ -97,42 +96,83 @@ WritesBy Direct relaxes = relaxes ≡ false
 WritesBy Check relaxes = ⊥
 
 -- the text of a window for the trace: the rows of some steps that settle it; or none, where windows are stepped
-abbrev pub AreSteps : Bool → FileParts → ℕ → Option (List ℕ) → Type 0
-AreSteps true parts w None = ⊥
-AreSteps true parts w (Some text) =
-    (made : List RowOf) × Settles (window_of (run_plan parts (first_tick parts w) (ticks_in parts w))) made
-    × (text ≡ trace_rows (names_of parts) w made)
-AreSteps false parts w steps = steps ≡ None
+abbrev pub AreSteps : Bool → FileParts → Option (List ℕ) → ℕ → Option (List ℕ) → Type 0
+AreSteps true parts records w None = ⊥
+AreSteps true parts records w (Some text) =
+    (made : List RowOf) × Settles ((traced_in parts records).window w) made × (text ≡ trace_rows (names_of parts) w made)
+AreSteps false parts records w steps = steps ≡ None
 
 -- the texts of a window, for the output and for the trace
-pub record AreTexts (relaxes : Bool) (parts : FileParts) (w : ℕ) (rows : List ℕ) (steps : Option (List ℕ)) : Type 0 where
-  pub rows_are : rows ≡ window_rows parts w
-  pub steps_are : AreSteps relaxes parts w steps
+pub record AreTexts (relaxes : Bool) (parts : FileParts) (records : Option (List ℕ)) (w : ℕ) (texts : Texts) : Type 0 where
+  pub rows_are : texts.rows ≡ window_rows parts records w
+  pub steps_are : AreSteps relaxes parts records w texts.steps
 
--- a session before window w of the plant's interval run, and a reader that was asked no further
-pub record IsAlong (w : ℕ) (session : SessionOf) (reader : ReaderOf) : Type 0 where
-  pub session_is : IsSession session
+-- the texts of a window that was made: its rows and, where it was relaxed, those of its steps
+abbrev pub steps_text : Bool → FileParts → ℕ → WindowOf → Option (List ℕ)
+steps_text true parts w window = Some (trace_rows (names_of parts) w window.steps)
+steps_text false parts w window = None
+
+pub record AreTextsOf (relaxed : Bool) (parts : FileParts) (w : ℕ) (window : WindowOf) (texts : Texts) : Type 0 where
+  pub rows_are : texts.rows ≡ output_rows parts window
+  pub steps_are : texts.steps ≡ steps_text relaxed parts w window
+
+-- a reader that was opened for a plant, and asked for no window yet
+pub record IsOpened (parts : FileParts) (reader : ReaderOf) : Type 0 where
+  pub asked : reader.asked ≡ 0
+  pub faultless : reader.fault ≡ None
+  pub reader_is : IsReaderFor parts reader
+
+-- whatever the records say: a session before window w of its plant, and a reader that is ready for it
+pub record IsBefore (w : ℕ) (session : SessionOf) (reader : ReaderOf) : Type 0 where
   pub tick : session.tick ≡ min (first_tick session.parts w) session.parts.ticks
-  pub follows : FollowsRun session
   pub unended : session.end ≡ None
-  pub asked : reader.asked ≤ session.tick
+  pub ready : IsReady session reader
   pub faultless : reader.fault ≡ None
 
--- the next window's texts were made
-pub record HasTexts (relaxes : Bool) (parts : FileParts) (w : ℕ) (session : SessionOf) (reader : ReaderOf) (texts : Texts) : Type 0 where
-  pub texts_are : AreTexts relaxes parts w texts.rows texts.steps
-  pub narrow : IsNarrowEnough parts w
-  pub same : session.parts ≡ parts
-  pub along : IsAlong (w + 1) session reader
+-- the session gave window w, and is before the next one
+pub record HasMoved (w : ℕ) (old new : SessionOf) (reader : ReaderOf) : Type 0 where
+  pub same : new.parts ≡ old.parts
+  pub before : IsBefore (w + 1) new reader
 
--- the next window has a band that is wider than was asked
-pub record IsStoppedAt (command : Command) (parts : FileParts) (w : ℕ) (stop : Stop) : Type 0 where
-  pub place : TooWide
-  pub first : IsFirstWide parts (streams_of_run parts) (first_tick parts w) (ticks_in parts w) place
-  pub stop_is : stop ≡ stop_by command (wide_fault parts place)
+-- with the plant's last window, the records were read to their end
+abbrev pub IsReadWith : FileParts → Option (List ℕ) → SessionOf → Feeding → Type 0
+IsReadWith parts records session feeds = session.tick ≡ parts.ticks → IfSome records (λ _. feeds.left ≡ Some [])
 
--- how making the next window's texts ended
-abbrev pub TextsEnded : Command → Bool → FileParts → ℕ → SessionOf → ReaderOf → Result Texts End → Type 0
-TextsEnded command relaxes parts w session reader (Ok texts) = HasTexts relaxes parts w session reader texts
-TextsEnded command relaxes parts w session reader (Err (Stopped stop)) = IsStoppedAt command parts w stop
-TextsEnded command relaxes parts w session reader (Err NoMemory) = Unit {0}
+-- the texts of window w were made, which is accepted, and session and reader follow the run by these records on
+pub record HasTexts (relaxes : Bool) (parts : FileParts) (records : Option (List ℕ)) (w : ℕ) (session : SessionOf) (feeds : Feeding)
+    (texts : Texts) : Type 0 where
+  pub texts_are : AreTexts relaxes parts records w texts
+  pub accepted : IsAccepted parts records w
+  pub along : IsAlong records session feeds
+  pub read_up : IsReadWith parts records session feeds
+
+-- the source of records failed, which stops the command
+pub record IsUnread (command : Command) (before now : ℕ) (stop : Stop) : Type 0 where
+  pub rose : Rose before now
+  pub stop_is : stop ≡ stop_by command ReadExtra
+
+-- how making the next window's texts ended, by these records
+abbrev pub TextsEnded : Command → Bool → FileParts → Option (List ℕ) → ℕ → SessionOf → Feeding → Feeding → Result Texts End → Type 0
+TextsEnded command relaxes parts records w session feeds read (Ok texts) = HasTexts relaxes parts records w session read texts
+TextsEnded command relaxes parts records w session feeds read (Err (Stopped stop)) =
+    StopsAfter command parts records w (Some stop) ⊎ IsUnread command feeds.faults read.faults stop
+TextsEnded command relaxes parts records w session feeds read (Err NoMemory) = Unit {0}
+
+-- the end of a command by the fault of a reader, among all faults
+abbrev pub end_by_feeds : Command → Option TopFault → End
+end_by_feeds command None = NoMemory
+end_by_feeds command (Some fault) = Stopped (stop_by command fault)
+
+-- How writing the windows of a plant by these records ends, with the source of records before and after.
+pub data WindowsEnded (command : Command) (parts : FileParts) (records : Option (List ℕ)) (extra : SourceUse) (sinks : Sinks)
+    (ending : Result (Unit {0}) End) : Type 0 where
+  through : (course : Course) → IsWork command parts records course → Stood course course.windows sinks →
+      (course.stop ≡ None → IfSome records (λ _. extra.left ≡ Some [])) → ending ≡ course_end course.stop →
+      WindowsEnded command parts records extra sinks ending
+  unread : (course : Course) (k : ℕ) → IsWork command parts records course → Stood course k sinks → Rose extra.before extra.now →
+      ending ≡ Err (Stopped (stop_by command ReadExtra)) → WindowsEnded command parts records extra sinks ending
+  broken : (course : Course) (fault : TopFault) → IsWork command parts records course → text_of course ≢ [] →
+      BrokeOff course sinks fault → ending ≡ Err (Stopped (stop_by command fault)) →
+      WindowsEnded command parts records extra sinks ending
+  within : (course : Course) (k : ℕ) → IsWork command parts records course → Stood course k sinks →
+      (course.stop ≡ None → k < course.windows) → ending ≡ Err NoMemory → WindowsEnded command parts records extra sinks ending

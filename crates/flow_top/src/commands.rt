@@ -8,7 +8,7 @@ use crate::fault::End;
 use crate::windows::write_windows;
 use crate::words::Command;
 use feeds::FeedReader;
-use flow_edge::Sink;
+use flow_edge::{NoSource, Sink};
 use plant::Plant;
 use relax_core::NoChaos;
 use std::alloc::Global;
@@ -35,6 +35,7 @@ pub fn write_run<R: Threads + Sync, O: Sink, T: Sink>(
         Command::Run,
         &mut windows,
         &mut feeds,
+        &mut NoSource,
         out,
         trace,
     )
@@ -59,6 +60,7 @@ pub fn write_direct<R: Threads + Sync, O: Sink, T: Sink>(
         Command::Direct,
         &mut windows,
         &mut feeds,
+        &mut NoSource,
         out,
         trace,
     )

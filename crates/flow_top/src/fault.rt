@@ -1,7 +1,8 @@
 ghost use Rattle.std.specs.Prelude.{◌≡◌};
 ghost use Rattle.flow_top.specs.declared.fault.End.TheVariants.{NoMemory};
-ghost use Rattle.flow_top.specs.Faults.{fault_of_text, fault_of_plant};
+ghost use Rattle.flow_top.specs.Faults.{fault_of_text, fault_of_plant, fault_of_feeds};
 
+use feeds::FeedFault;
 use flow_edge::Status;
 use flow_file::TextFault;
 use plant::PlantFault;
@@ -42,6 +43,22 @@ pub fn fault_of_plant(fault: PlantFault) -> TopFault
         PlantFault::ColumnTooFast { unit } => TopFault::ColumnTooFast { unit },
         PlantFault::InstantLoop { unit } => TopFault::InstantLoop { unit },
         PlantFault::TooDeep { unit } => TopFault::TooDeep { unit },
+    }
+}
+
+/// The fault of a reader of feeds among all faults, of a record that it refuses or of the source of records; none of want of memory.
+#[tactic(auto, unfolding(crate::specs::Faults::fault_of_feeds))]
+pub fn fault_of_feeds(fault: FeedFault) -> Option<TopFault>
+    ensures { result ≡ fault_of_feeds fault }
+{
+    match fault {
+        FeedFault::BadRecord { at } => Some(TopFault::BadRecord { at }),
+        FeedFault::UnknownPlace { at } => Some(TopFault::UnknownPlace { at }),
+        FeedFault::Order { at } => Some(TopFault::Order { at }),
+        FeedFault::Outside { at } => Some(TopFault::Outside { at }),
+        FeedFault::TooLong { at } => Some(TopFault::FeedTooLong { at }),
+        FeedFault::ReadFault => Some(TopFault::ReadExtra),
+        FeedFault::NoMemory => None,
     }
 }
 

@@ -3,11 +3,10 @@ ghost use Rattle.quant.specs.Interval.{AllHold, point, points};
 ghost use Rattle.flowsheet.specs.Trajectory.{IsTrajectory};
 ghost use Rattle.flowsheet.specs.Limited.{ArePoints};
 ghost use Rattle.parts.specs.Parts.{FileParts};
-ghost use Rattle.parts.specs.Given.{given_bands};
 ghost use Rattle.plant.specs.Sound.{IsPlant};
+ghost use Rattle.feeds.specs.Given.{given_by};
 ghost use Rattle.plant_streams.specs.Streams.{streams_of};
 ghost use Rattle.plant.specs.PlantOf.{plant_of, carried_of};
-ghost use Rattle.plant.specs.Rows.{streams_of_run};
 ghost use Rattle.tables.specs.Output.{header, rank_header, rows_of, channels};
 ghost use Rattle.flow_top.specs.declared.words.Command.{Command};
 ghost use Rattle.flow_top.specs.declared.fault.Stop.{Stop};
@@ -18,7 +17,7 @@ ghost use Rattle.relaxation.specs.Tube.{tube_of};
 ghost use Rattle.relaxation.specs.Core.{last_of, reached};
 ghost use Rattle.relax_core.specs.Board.{RowOf, step_in};
 ghost use Rattle.relax_core.specs.Settled.{Settles};
-ghost use Rattle.flow_top.specs.WindowsCourse.{all_rows, traced_in, first_tick, ticks_in, wide_fault};
+ghost use Rattle.flow_top.specs.WindowsCourse.{bands_by, all_rows, traced_in, first_tick, ticks_in, wide_fault};
 ghost use Rattle.flow_top.specs.Faults.{stop_by};
 ghost use Rattle.window_accept.specs.declared.wide.TooWide.{TooWide};
 ghost use Rattle.window_accept.specs.Wide.{IsAmong, AreNarrowEnough, IsFirstWide};
@@ -29,7 +28,7 @@ ghost use Rattle.flow_top.specs.Uses.{SourceUse};
 ghost use Rattle.flow_top.specs.Causes.{IsAtWork, IsEndOn};
 ghost use Rattle.flow_top.specs.Worked.{worked, between};
 
-use feeds::windows_cut_the_run;
+use feeds::{records_stay_in_limits, windows_cut_the_run};
 use flow_file::read_parts_are_in_range;
 use flowsheet::{points_run_alone, trajectories_exist, trajectories_lie_in_the_run};
 use plant::{built_plants_are_plants, verdicts_exist};
@@ -44,20 +43,20 @@ pub fn courses_print_the_run()
     // After k windows of `run` or `direct`: the header and the rows of the ticks of these windows, which together are the run.
     ensures windows { (words : List (List ℕ)) (plant : SourceUse) (at : IsAtWork words plant) → WritesRun at.command →
         (k : ℕ) → k ≤ at.course.windows → written at.course k ≡ header ++
-        rows_of (labels_of at.parts) (streams_of_run at.parts) 0 (min (k * at.parts.window) at.parts.ticks) }
+        rows_of (labels_of at.parts) (bands_by at.parts None) 0 (min (k * at.parts.window) at.parts.ticks) }
     ensures run { (words : List (List ℕ)) (plant : SourceUse) (at : IsAtWork words plant) → WritesRun at.command →
-        at.course.stop ≡ None → text_of at.course ≡ header ++ all_rows at.parts }
+        at.course.stop ≡ None → text_of at.course ≡ header ++ all_rows at.parts None }
 
     // A stop is the first band of the run that is wider than was asked, and lies in the window after them.
     ensures wide { (words : List (List ℕ)) (plant : SourceUse) (at : IsAtWork words plant) (stop : Stop) →
         at.course.stop ≡ Some stop →
         (place : TooWide) × (stop ≡ stop_by at.command (wide_fault at.parts place))
         × IsAmong (first_tick at.parts at.course.windows) (ticks_in at.parts at.course.windows) place
-        × IsFirstWide at.parts (streams_of_run at.parts) 0 at.parts.ticks place }
+        × IsFirstWide at.parts (bands_by at.parts None) 0 at.parts.ticks place }
 
     // Where nothing stops it, no band of the run is wider than was asked.
     ensures narrow { (words : List (List ℕ)) (plant : SourceUse) (at : IsAtWork words plant) → WritesRun at.command →
-        at.course.stop ≡ None → AreNarrowEnough at.parts (streams_of_run at.parts) 0 at.parts.ticks }
+        at.course.stop ≡ None → AreNarrowEnough at.parts (bands_by at.parts None) 0 at.parts.ticks }
 
     // `check` prints a header and one row for each unit.
     ensures check { (words : List (List ℕ)) (plant : SourceUse) (at : IsAtWork words plant) → at.command ≡ Command.Check →
@@ -66,40 +65,46 @@ pub fn courses_print_the_run()
     // Each channel of each stream has a band at each tick, and so a row.
     ensures channels { (words : List (List ℕ)) (plant : SourceUse) (at : IsAtWork words plant) (tick s : ℕ) →
         s < length (streams_of at.parts) →
-        length (streams_of_run at.parts tick s) ≡
+        length (bands_by at.parts None tick s) ≡
         length (channels (slice_index_or (map (λ stream. stream.signal) (streams_of at.parts)) s false)) }
-{}
+{
+    records_stay_in_limits();
+}
 
 /// The bands that are printed for a plant hold each trajectory of it over n ticks, at every one of them, stream and channel.
 /// Where each opening band is one number, and each feed at these ticks, they are the trajectory's values. Each plant has
 /// a trajectory. The law takes what the clauses of `flow_top` give of a command at work on a plant.
 pub fn printed_bands_hold_trajectories()
     ensures holds { (words : List (List ℕ)) (plant : SourceUse) (at : IsAtWork words plant) (n : ℕ) (x y : ℕ → ℕ → List ℤ) →
-        IsTrajectory (plant_of at.parts) (carried_of at.parts) (given_bands at.parts) n x y →
+        IsTrajectory (plant_of at.parts) (carried_of at.parts) (given_by at.parts None) n x y →
         (tick s : ℕ) → tick < n → s < length (streams_of at.parts) →
-        AllHold (streams_of_run at.parts tick s) (x tick s) }
+        AllHold (bands_by at.parts None tick s) (x tick s) }
     ensures values { (words : List (List ℕ)) (plant : SourceUse) (at : IsAtWork words plant) (n : ℕ) (x y : ℕ → ℕ → List ℤ) →
-        ArePoints (plant_of at.parts) (carried_of at.parts) (given_bands at.parts) n →
-        IsTrajectory (plant_of at.parts) (carried_of at.parts) (given_bands at.parts) n x y →
+        ArePoints (plant_of at.parts) (carried_of at.parts) (given_by at.parts None) n →
+        IsTrajectory (plant_of at.parts) (carried_of at.parts) (given_by at.parts None) n x y →
         (tick s : ℕ) → tick < n → s < length (streams_of at.parts) →
-        streams_of_run at.parts tick s ≡ points (x tick s) }
+        bands_by at.parts None tick s ≡ points (x tick s) }
     ensures exists { (words : List (List ℕ)) (plant : SourceUse) (at : IsAtWork words plant) →
         (x : ℕ → ℕ → List ℤ) × (y : ℕ → ℕ → List ℤ) ×
-        IsTrajectory (plant_of at.parts) (carried_of at.parts) (given_bands at.parts) at.parts.ticks x y }
+        IsTrajectory (plant_of at.parts) (carried_of at.parts) (given_by at.parts None) at.parts.ticks x y }
 {
     built_plants_are_plants();
     trajectories_lie_in_the_run();
     points_run_alone();
     trajectories_exist();
+    records_stay_in_limits();
 }
 
-/// `direct` prints what `run` prints on each plant, and stops where it does, with the same fault and status.
+/// `direct` prints what `run` prints on each plant and with the same records, and stops where it does, with the same fault and status.
 pub fn direct_prints_the_run()
-    ensures windows { (parts : FileParts) (a b : Course) → IsWork Command.Run parts a → IsWork Command.Direct parts b →
+    ensures windows { (parts : FileParts) (records : Option (List ℕ)) (a b : Course) →
+        IsWork Command.Run parts records a → IsWork Command.Direct parts records b →
         a.windows ≡ b.windows }
-    ensures text { (parts : FileParts) (a b : Course) → IsWork Command.Run parts a → IsWork Command.Direct parts b →
+    ensures text { (parts : FileParts) (records : Option (List ℕ)) (a b : Course) →
+        IsWork Command.Run parts records a → IsWork Command.Direct parts records b →
         (k : ℕ) → k ≤ a.windows → written a k ≡ written b k }
-    ensures stop { (parts : FileParts) (a b : Course) → IsWork Command.Run parts a → IsWork Command.Direct parts b →
+    ensures stop { (parts : FileParts) (records : Option (List ℕ)) (a b : Course) →
+        IsWork Command.Run parts records a → IsWork Command.Direct parts records b →
         a.stop ≡ b.stop }
 {
     first_wide_places_are_one();
@@ -119,18 +124,18 @@ pub fn texts_are_judged_once()
     wide_places_are_found();
 }
 
-/// Each command has a course on each plant, and its courses on one plant write the same and stop alike.
+/// Each command has a course on each plant with each text of records, and its courses on one of these write the same and stop alike.
 pub fn commands_have_one_course()
-    ensures exists { (command : Command) (parts : FileParts) → IsPlant parts →
-        (course : Course) × IsWork command parts course }
-    ensures windows { (command : Command) (parts : FileParts) (a b : Course) → IsWork command parts a →
-        IsWork command parts b → a.windows ≡ b.windows }
-    ensures text { (command : Command) (parts : FileParts) (a b : Course) → IsWork command parts a →
-        IsWork command parts b → (k : ℕ) → k ≤ a.windows → written a k ≡ written b k }
-    ensures trace { (command : Command) (parts : FileParts) (a b : Course) → IsWork command parts a →
-        IsWork command parts b → a.trace ≡ b.trace }
-    ensures stop { (command : Command) (parts : FileParts) (a b : Course) → IsWork command parts a →
-        IsWork command parts b → a.stop ≡ b.stop }
+    ensures exists { (command : Command) (parts : FileParts) (records : Option (List ℕ)) → IsPlant parts →
+        (course : Course) × IsWork command parts records course }
+    ensures windows { (command : Command) (parts : FileParts) (records : Option (List ℕ)) (a b : Course) →
+        IsWork command parts records a → IsWork command parts records b → a.windows ≡ b.windows }
+    ensures text { (command : Command) (parts : FileParts) (records : Option (List ℕ)) (a b : Course) →
+        IsWork command parts records a → IsWork command parts records b → (k : ℕ) → k ≤ a.windows → written a k ≡ written b k }
+    ensures trace { (command : Command) (parts : FileParts) (records : Option (List ℕ)) (a b : Course) →
+        IsWork command parts records a → IsWork command parts records b → a.trace ≡ b.trace }
+    ensures stop { (command : Command) (parts : FileParts) (records : Option (List ℕ)) (a b : Course) →
+        IsWork command parts records a → IsWork command parts records b → a.stop ≡ b.stop }
 {
     first_wide_places_are_one();
     wide_places_are_found();
@@ -141,27 +146,28 @@ pub fn commands_have_one_course()
 /// for all streams. `run` writes a trace, and `direct` and `check` none.
 pub fn traces_lead_to_the_run()
     ensures run { (words : List (List ℕ)) (plant : SourceUse) (at : IsAtWork words plant) → at.command ≡ Command.Run →
-        at.course.trace ≡ Some (traced_in at.parts) }
+        at.course.trace ≡ Some (traced_in at.parts None) }
     ensures direct { (words : List (List ℕ)) (plant : SourceUse) (at : IsAtWork words plant) → at.command ≡ Command.Direct →
         at.course.trace ≡ None }
     ensures check { (words : List (List ℕ)) (plant : SourceUse) (at : IsAtWork words plant) → at.command ≡ Command.Check →
         at.course.trace ≡ None }
     ensures leads { (words : List (List ℕ)) (plant : SourceUse) (at : IsAtWork words plant) → at.command ≡ Command.Run →
         (w s : ℕ) → w < at.course.windows → s < length (streams_of at.parts) →
-        (rows : List RowOf) → Settles ((traced_in at.parts).window w) rows →
-        last_of (reached ((traced_in at.parts).window w) (map step_in rows)) s
-        ≡ tube_of (λ t. streams_of_run at.parts (first_tick at.parts w + t) s) (ticks_in at.parts w) }
+        (rows : List RowOf) → Settles ((traced_in at.parts None).window w) rows →
+        last_of (reached ((traced_in at.parts None).window w) (map step_in rows)) s
+        ≡ tube_of (λ t. bands_by at.parts None (first_tick at.parts w + t) s) (ticks_in at.parts w) }
     ensures listed { (words : List (List ℕ)) (plant : SourceUse) (at : IsAtWork words plant) → at.command ≡ Command.Run →
         (k w : ℕ) (text : List ℕ) → k ≤ at.course.windows → w < k →
-        IsTrace (names_of at.parts) (traced_in at.parts).window k text →
+        IsTrace (names_of at.parts) (traced_in at.parts None).window k text →
         (before : List ℕ) × (rows : List RowOf) × (after : List ℕ)
         × (text ≡ before ++ (trace_rows (names_of at.parts) w rows ++ after))
-        × Settles ((traced_in at.parts).window w) rows
+        × Settles ((traced_in at.parts None).window w) rows
         × ((s : ℕ) → s < length (streams_of at.parts) →
-        last_of (reached ((traced_in at.parts).window w) (map step_in rows)) s
-        ≡ tube_of (λ t. streams_of_run at.parts (first_tick at.parts w + t) s) (ticks_in at.parts w)) }
+        last_of (reached ((traced_in at.parts None).window w) (map step_in rows)) s
+        ≡ tube_of (λ t. bands_by at.parts None (first_tick at.parts w + t) s) (ticks_in at.parts w)) }
 {
     traces_settle_their_windows();
+    records_stay_in_limits();
     windows_cut_the_run();
     windows_are_open();
     legal_steps_keep_the_run();
@@ -169,8 +175,8 @@ pub fn traces_lead_to_the_run()
 
 /// The bands of a worked tank: its level at three ticks, and its outflow at the last.
 pub fn worked_bands()
-    ensures opening { streams_of_run worked 0 3 ≡ between (pos 1000) (pos 1000) ∷ [] }
-    ensures next { streams_of_run worked 1 3 ≡ between (pos 1000) (pos 1002) ∷ [] }
-    ensures last { streams_of_run worked 2 3 ≡ between (pos 1000) (pos 1004) ∷ [] }
-    ensures outflow { streams_of_run worked 2 2 ≡ point (pos 10) ∷ between (pos 1) (pos 2) ∷ point (pos 300000) ∷ [] }
+    ensures opening { bands_by worked None 0 3 ≡ between (pos 1000) (pos 1000) ∷ [] }
+    ensures next { bands_by worked None 1 3 ≡ between (pos 1000) (pos 1002) ∷ [] }
+    ensures last { bands_by worked None 2 3 ≡ between (pos 1000) (pos 1004) ∷ [] }
+    ensures outflow { bands_by worked None 2 2 ≡ point (pos 10) ∷ between (pos 1) (pos 2) ∷ point (pos 300000) ∷ [] }
 {}

@@ -1,26 +1,27 @@
 //! The windows of a plant, written one after another.
 
-ghost use Rattle.std.specs.Prelude.{◌≡◌, ◌⊎◌, ◌<◌, ◌≤◌, None, IfOk, length, slice_index_or};
+ghost use Rattle.std.specs.Prelude.{◌≡◌, ◌⊎◌, ◌<◌, ◌≤◌, ℕ, List, Option, IfOk, length};
 ghost use Rattle.std.specs.Option.{option_map};
 ghost use Rattle.plant_streams.specs.Streams.{streams_of};
 ghost use Rattle.tables.specs.Output.{channels};
-ghost use Rattle.feeds.specs.Given.{run_plan};
+ghost use Rattle.relax_core.specs.Settled.{IsWindow};
+ghost use Rattle.feeds.specs.ReaderOf.{feeding};
+ghost use Rattle.feeds.specs.Standing.{Stands};
 ghost use Rattle.window_accept.specs.Wide.{is_signal};
-ghost use Rattle.feeds.specs.Reader.{new_reader};
-ghost use Rattle.window_accept.specs.Session.{opening_session, IsMadeBy, HasRunAt};
+ghost use Rattle.window_accept.specs.Session.{opening_session, IsAlong};
 ghost use Rattle.flow_top.specs.declared.fault.End.TheVariants.{Stopped, NoMemory};
-ghost use Rattle.flow_top.specs.Faults.{stop_by};
-ghost use Rattle.flow_top.specs.Ended.{WorkEnded};
-ghost use Rattle.flow_top.specs.WindowsCourse.{first_tick, ticks_in, wide_fault, IsWindowCount};
-ghost use Rattle.flow_top.specs.Steps.{traces, header_of_steps, WritesBy, AreTexts, IsAlong, TextsEnded, PairEnded, AreCounted};
-ghost use Rattle.flow_top.specs.Uses.{sinks_use};
+ghost use Rattle.flow_top.specs.Faults.{stop_by, fault_of_feeds};
+ghost use Rattle.flow_top.specs.WindowsCourse.{first_tick, wide_fault, IsWindowCount};
+ghost use Rattle.flow_top.specs.Steps.{traces, header_of_steps, WritesBy, AreTextsOf, IsOpened, IsBefore, HasMoved, end_by_feeds};
+ghost use Rattle.flow_top.specs.Steps.{TextsEnded, PairEnded, AreCounted, WindowsEnded};
+ghost use Rattle.flow_top.specs.Uses.{source_use, sinks_use};
 
-use crate::fault::End;
+use crate::fault::{End, fault_of_feeds};
 use crate::pieces::write_pair;
 use crate::stops::stop_by;
 use crate::words::Command;
-use feeds::FeedReader;
-use flow_edge::{NoSource, Sink};
+use feeds::{FeedFault, FeedReader};
+use flow_edge::{Sink, Source};
 use parts::Parts;
 use plant::Plant;
 use plant_names::Text;
@@ -29,8 +30,8 @@ use report::{TopFault, channel_names, output_header, trace_header, trace_rows, t
 use std::alloc::{AllocError, Global};
 use std::thread::Threads;
 use window_accept::{
-    TooWide, WindowEnd, Windows, first_wide_places_are_one, sessions_follow_the_run,
-    wide_places_are_found,
+    TooWide, WindowEnd, Windows, first_wide_places_are_one, readers_stay_ready,
+    sessions_follow_the_run, wide_places_are_found,
 };
 
 /// The texts of a window: for the output and, where it was relaxed, for the trace.
@@ -75,9 +76,8 @@ fn window_texts(
     index: u32,
     window: &Window,
 ) -> Result<Texts, AllocError>
-    requires run { HasRunAt plant.now (first_tick plant.now index) (ticks_in plant.now index) window.now }
-    requires made { IsMadeBy relaxed (run_plan plant.now (first_tick plant.now index) (ticks_in plant.now index)) window.now }
-    ensures { IfOk result (λ texts. AreTexts relaxed plant.now index texts.rows texts.steps) }
+    requires { IsWindow plant.now window.now }
+    ensures { IfOk result (λ texts. AreTextsOf relaxed plant.now index window.now texts) }
 {
     let rows = tube_rows(alloc, plant, window)?;
     let steps = if relaxed {
@@ -117,28 +117,45 @@ fn end_by_width(alloc: Global, command: Command, plant: &Plant, wide: TooWide) -
     }
 }
 
+/// The end of a command with a fault of the reader of feeds.
+fn end_by_feeds(command: Command, fault: FeedFault) -> End
+    ensures { result ≡ end_by_feeds command (fault_of_feeds fault) }
+{
+    match fault_of_feeds(fault) {
+        Some(fault) => End::Stopped(stop_by(command, fault)),
+        None => End::NoMemory,
+    }
+}
+
 /// The texts of the next window, or why the command ends.
-fn next_texts<R: Threads + Sync, W: Windows>(
+fn next_texts<R: Threads + Sync, W: Windows, E: Source>(
     rt: &R,
     alloc: Global,
     command: Command,
     index: u32,
     windows: &mut W,
     feeds: &mut FeedReader,
+    extra: &mut E,
 ) -> Result<Texts, End>
     requires writes { WritesBy command W.relaxes }
-    requires along { IsAlong index (W.session windows.old) feeds.old }
+    requires before { IsBefore index (W.session windows.old) feeds.old }
     requires more { first_tick (W.session windows.old).parts index < (W.session windows.old).parts.ticks }
-    ensures { TextsEnded command W.relaxes (W.session windows.old).parts index (W.session windows.new) feeds.new result }
+    ensures moved { IfOk result (λ _. HasMoved index (W.session windows.old) (W.session windows.new) feeds.new) }
+    ensures counted { E.faults extra.old ≤ E.faults extra.new }
+    ensures texts { (records : Option (List ℕ)) →
+        IsAlong records (W.session windows.old) (feeding E.left E.faults feeds.old extra.old) →
+        TextsEnded command W.relaxes (W.session windows.old).parts records index (W.session windows.new)
+        (feeding E.left E.faults feeds.old extra.old) (feeding E.left E.faults feeds.new extra.new) result }
 {
     sessions_follow_the_run();
+    readers_stay_ready();
     let relaxed = traces(command);
-    match windows.next_window(rt, alloc, feeds, &mut NoSource) {
+    match windows.next_window(rt, alloc, feeds, extra) {
         Ok(window) => Ok(window_texts(alloc, relaxed, windows.plant(), index, &window)?),
         Err(WindowEnd::Wide { place }) => Err(end_by_width(alloc, command, windows.plant(), place)),
         Err(WindowEnd::NoMemory) => Err(End::NoMemory),
         Err(WindowEnd::Finished) => unreachable!(),
-        Err(WindowEnd::Feed { .. }) => unreachable!(),
+        Err(WindowEnd::Feed { fault }) => Err(end_by_feeds(command, fault)),
     }
 }
 
@@ -159,19 +176,22 @@ fn write_texts<O: Sink, T: Sink>(
 }
 
 /// Writes the headers of output and trace, and then the rows of each window and those of its steps.
-pub fn write_windows<R: Threads + Sync, W: Windows, O: Sink, T: Sink>(
+pub fn write_windows<R: Threads + Sync, W: Windows, E: Source, O: Sink, T: Sink>(
     rt: &R,
     alloc: Global,
     command: Command,
     windows: &mut W,
     feeds: &mut FeedReader,
+    extra: &mut E,
     out: &mut O,
     trace: &mut T,
 ) -> Result<(), End>
     requires writes { WritesBy command W.relaxes }
     requires opening { (W.session windows.old) ≡ opening_session (W.session windows.old).parts }
-    requires reader { feeds.old ≡ new_reader }
-    ensures { WorkEnded command (W.session windows.old).parts
+    requires reader { IsOpened (W.session windows.old).parts feeds.old }
+    ensures { (records : Option (List ℕ)) →
+        Stands (W.session windows.old).parts records (feeding E.left E.faults feeds.old extra.old) →
+        WindowsEnded command (W.session windows.old).parts records (source_use E.left E.faults extra.old extra.new)
         (sinks_use O.given O.faults out.old out.new T.given T.faults trace.old trace.new) result }
 {
     sessions_follow_the_run();
@@ -186,7 +206,7 @@ pub fn write_windows<R: Threads + Sync, W: Windows, O: Sink, T: Sink>(
         trace,
     )?;
     for index in 0..count {
-        let texts = next_texts(rt, alloc, command, index, windows, feeds)?;
+        let texts = next_texts(rt, alloc, command, index, windows, feeds, extra)?;
         write_texts(command, &texts, out, trace)?;
     }
     Ok(())

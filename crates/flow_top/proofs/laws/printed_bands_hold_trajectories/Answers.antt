@@ -1,8 +1,10 @@
-use Rattle.std.proofs.Common.{◌<◌, ℕ, length, subst, sym}
+use Rattle.std.proofs.Common.{◌<◌, ℕ, length, None, subst, sym}
 use Rattle.std.proofs.lemmas.List.{length-map}
 use Rattle.parts.specs.Parts.{FileParts}
 use Rattle.plant_streams.specs.Streams.{streams_of}
 use Rattle.plant.specs.PlantOf.{plant_of, origin_in}
+use Rattle.feeds.specs.Given.{given_by}
+use Rattle.flow_top.proofs.Channels.{given-numbers}
 use Rattle.flow_top.proofs.laws.printed_bands_hold_trajectories.Goals as goal
 
 -- the plant has a stream for each of the parts' streams
@@ -23,4 +25,5 @@ returns-clause-values c words plant at n x y single trajectory tick s t l =
 pub returns-clause-exists : goal.returns-clause-exists
 returns-clause-exists c words plant at =
     c.trajectories_exist.ensures.bands _ _ _ at.parts.ticks (c.built_plants_are_plants.ensures.ranked at.parts at.work.plant)
-    (c.built_plants_are_plants.ensures.bands at.parts at.parts.ticks at.work.plant)
+    (given-numbers at.parts (given_by at.parts None) at.work.plant (c.records_stay_in_limits.ensures at.parts None at.work.plant)
+    at.parts.ticks)

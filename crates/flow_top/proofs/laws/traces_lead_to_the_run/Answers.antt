@@ -1,8 +1,8 @@
-use Rattle.std.proofs.Common.{arith, ◌∙◌, ◌<◌, ℕ, map, sym, subst, Some}
+use Rattle.std.proofs.Common.{arith, ◌∙◌, ◌<◌, ℕ, map, sym, subst, Some, None}
 use Rattle.plant.proofs.Lookups.{streams-counted}
 use Rattle.renewal.specs.Plan.{window_of}
 use Rattle.relax_core.specs.Board.{step_in}
-use Rattle.feeds.specs.Given.{run_plan}
+use Rattle.feeds.specs.Given.{run_plan, given_by}
 use Rattle.flow_top.specs.declared.words.Command.{Command}
 use Rattle.flow_top.specs.declared.words.Command.TheVariants.{Run}
 use Rattle.flow_top.specs.Courses.{IsCourse}
@@ -14,21 +14,23 @@ use Rattle.flow_top.proofs.laws.traces_lead_to_the_run.Goals as goal
 pub returns-clause-leads : goal.returns-clause-leads
 returns-clause-leads c words plant at run w s l m rows settles =
     let parts = at.parts in
-    let follows = subst (λ (k : Command). IsCourse k parts at.course) run at.work.follows in
-    let inside = window-inside Run (Some (traced_in parts)) parts at.course at.work.plant follows w l in
+    let follows = subst (λ (k : Command). IsCourse k parts None at.course) run at.work.follows in
+    let inside = window-inside Run (Some (traced_in parts None)) parts None at.course at.work.plant follows w l in
     let first = first_tick parts w in
     let n = ticks_in parts w in
+    let given = given_by parts None in
+    let are = c.records_stay_in_limits.ensures parts None at.work.plant in
     let laws = c.windows_cut_the_run.ensures in
-    let opens = c.windows_are_open.ensures (run_plan parts first n)
-    (laws.plan parts first n at.work.plant inside.0 inside.1 inside.2) in
-    c.legal_steps_keep_the_run.ensures.quiet (window_of (run_plan parts first n)) (map step_in rows) opens settles.legal settles.quiet s
+    let opens = c.windows_are_open.ensures (run_plan parts given first n)
+    (laws.plan parts given first n at.work.plant are inside.0 inside.1 inside.2) in
+    c.legal_steps_keep_the_run.ensures.quiet (window_of (run_plan parts given first n)) (map step_in rows) opens settles.legal settles.quiet s
     (subst (λ (n : ℕ). s < n) (sym (streams-counted parts)) m)
-    ∙ laws.run parts first n s at.work.plant inside.0 inside.1 inside.2 m
+    ∙ laws.run parts given first n s at.work.plant are inside.0 inside.1 inside.2 m
 
 pub returns-clause-listed : goal.returns-clause-listed
 returns-clause-listed c words plant at run k w text few l legal =
     let parts = at.parts in
-    let traced = traced_in parts in
+    let traced = traced_in parts None in
     let stands = c.traces_settle_their_windows.ensures (names_of parts) traced.window k text legal w l in (
       stands.0,
       stands.1,

@@ -1,113 +1,119 @@
-use Rattle.std.proofs.Common.{◌≡◌, ◌∙◌, ◌<◌, ◌+◌, min, sym, ap, subst, arith, length, Err}
-use Rattle.parts.specs.Parts.{FileParts}
+use Rattle.std.proofs.Common.{◌≡◌, ◌⊎◌, ◌∙◌, ◌<◌, ◌+◌, Some, None, Err, sym, subst, length}
+use Rattle.flow_edge.specs.Faults.{Rose}
 use Rattle.plant_streams.specs.Streams.{streams_of}
-use Rattle.plant.specs.Rows.{streams_of_run}
 use Rattle.tables.specs.Output.{channels}
-use Rattle.window_accept.specs.Wide.{AreNarrowEnough, is_signal}
-use Rattle.window_accept.specs.declared.end.WindowEnd.TheVariants.{Wide}
-use Rattle.window_accept.specs.Session.{NextWindow}
-use Rattle.flow_top.specs.WindowsCourse.{first_tick, ticks_in}
-use Rattle.flow_top.specs.Steps.{AreTexts}
-use Rattle.flow_top.proofs.Texts.{at-window, at-next, run-here, made-here, same-kind, named-channel, stopped-at, same-parts}
+use Rattle.feeds.specs.declared.reader.FeedFault.TheVariants.{ReadFault}
+use Rattle.feeds.specs.Given.{run_plan, given_by, refusal_by}
+use Rattle.feeds.specs.Reader.{IsFailure}
+use Rattle.feeds.specs.ReaderOf.{feeding}
+use Rattle.window_accept.specs.Wide.{AreNarrowEnough, IsFirstWide, is_signal}
+use Rattle.window_accept.specs.declared.end.WindowEnd.TheVariants.{Feed, Wide}
+use Rattle.window_accept.specs.Session.{IsMadeBy, HasRunAt, NextWindow}
+use Rattle.flow_top.specs.WindowsCourse.{bands_by}
+use Rattle.flow_top.specs.Steps.{AreTextsOf, TextsEnded}
+use Rattle.flow_top.proofs.Texts.{at-window, at-this, as-texts, same-kind, stopped-at, unfed-at, wide-there, same-parts, read-with}
 use Rattle.flow_top.proofs.windows.next_texts.Goals as goal
 
-pub window_texts-requires-clause-run : goal.window_texts-requires-clause-run
-window_texts-requires-clause-run g c =
-    let old = g.W.Windows.session c.args.windows.now in
-    let new = g.W.Windows.session c.next_window.new.self in
-    let laws = c.sessions_follow_the_run.ensures in
-    let along = c.requires.along in
-    let here = at-window old c.args.index along.tick c.requires.more in
-    let next = c.in-Ok.ensures.next in
-    let same = c.plant.ensures.plant ∙ laws.same _ old new _ _ _ next in
-    run-here old.parts _ _ _ _ _ _ same (here.0 ∙ ap (λ (parts : FileParts). first_tick parts c.args.index) (sym same))
-    (here.1 ∙ ap (λ (parts : FileParts). ticks_in parts c.args.index) (sym same))
-    (laws.window _ old new _ _ _ along.session_is along.follows next)
-
-pub window_texts-requires-clause-made : goal.window_texts-requires-clause-made
-window_texts-requires-clause-made g c =
-    let old = g.W.Windows.session c.args.windows.now in
-    let new = g.W.Windows.session c.next_window.new.self in
-    let laws = c.sessions_follow_the_run.ensures in
-    let along = c.requires.along in
-    let here = at-window old c.args.index along.tick c.requires.more in
-    let next = c.in-Ok.ensures.next in
-    let same = c.plant.ensures.plant ∙ laws.same _ old new _ _ _ next in
-    made-here g.W.Windows.relaxes _ old.parts _ _ _ _ _ _
-    (same-kind c.args.command g.W.Windows.relaxes c.requires.writes ∙ sym c.traces-relaxed.ensures) same
-    (here.0 ∙ ap (λ (parts : FileParts). first_tick parts c.args.index) (sym same))
-    (here.1 ∙ ap (λ (parts : FileParts). ticks_in parts c.args.index) (sym same))
-    (laws.made _ old new _ _ _ along.session_is along.follows next)
-
-pub returns-in_ok-window_texts-in-Ok : goal.returns-in_ok-window_texts-in-Ok
-returns-in_ok-window_texts-in-Ok g c =
-    let old = g.W.Windows.session c.args.windows.now in
-    let new = g.W.Windows.session c.next_window.new.self in
-    let laws = c.sessions_follow_the_run.ensures in
-    let along = c.requires.along in
-    let here = at-window old c.args.index along.tick c.requires.more in
-    let next = c.in-Ok.ensures.next in
-    let parts = laws.same _ old new _ _ _ next in
-    let same = c.plant.ensures.plant ∙ parts in
-    let kind = same-kind c.args.command g.W.Windows.relaxes c.requires.writes ∙ sym c.traces-relaxed.ensures in
-    let texts = c.in_ok-window_texts-in-Ok.field-0 in
-    let moved = laws.moves _ old new _ _ _ next in
-    let asked = laws.asked _ old new _ _ _ next in
-    record {
-      texts_are =
-          subst (λ relaxes. AreTexts relaxes old.parts c.args.index texts.rows texts.steps) (sym kind)
-          (subst (λ parts. AreTexts c.traces-relaxed.result parts c.args.index texts.rows texts.steps) same
-          c.in_ok-window_texts-in-Ok.ensures);
-      narrow =
-          subst (λ first. AreNarrowEnough old.parts (streams_of_run old.parts) first (ticks_in old.parts c.args.index)) here.0
-          (subst (λ n. AreNarrowEnough old.parts (streams_of_run old.parts) old.tick n) here.1
-          (laws.narrow _ old new _ _ _ along.session_is along.follows next));
-      same = parts;
-      along = record {
-        session_is = c.plant.ensures.session;
-        tick = subst (λ (parts : FileParts). new.tick ≡ min (first_tick parts (c.args.index + 1)) parts.ticks) (sym parts)
-            (at-next old new.tick c.args.index here.0 c.requires.more moved);
-        follows = laws.follows _ old new _ _ _ along.session_is along.follows next;
-        unended = laws.unended _ old new _ _ _ next;
-        asked = omega (arith, asked);
-        faultless = laws.faultless _ old new _ _ _ next;
-      };
-    }
-
+-- src/windows.rt:155:47
 pub end_by_width-requires-clause-stream : goal.end_by_width-requires-clause-stream
 end_by_width-requires-clause-stream g c =
     let old = g.W.Windows.session c.args.windows.now in
     let new = g.W.Windows.session c.next_window.new.self in
-    let along = c.requires.along in
-    let next : NextWindow g.W.Windows.relaxes old new c.args.feeds.now c.next_window.new.feeds (Err (Wide c.in-Err-Wide.place)) =
-    rw (sym c.in-Err-Wide.field-0-is) c.in-Err-Wide.ensures.next in
-    let same = c.plant-in-Err-Wide.ensures.plant ∙ same-parts _ old new _ _ _ next in
-    let first = c.sessions_follow_the_run.ensures.wide _ old new _ _ c.in-Err-Wide.place along.session_is along.follows along.unended next in
-    subst (λ parts. c.in-Err-Wide.place.stream < length (streams_of parts)) (sym same) first.wide_is.stream
+    let reader = feeding g.E.Source.left g.E.Source.faults c.args.feeds.now c.args.extra.now in
+    let read = feeding g.E.Source.left g.E.Source.faults c.next_window.new.feeds c.next_window.new.source in
+    let place = c.in-Err-Wide.place in
+    let next : NextWindow g.W.Windows.relaxes old new reader read (Err (Wide place)) =
+    rw (sym c.in-Err-Wide.field-0-is) c.in-Err-Wide.ensures in
+    let same = c.plant-in-Err-Wide.ensures.plant ∙ same-parts _ old new reader read _ next in
+    subst (λ parts. place.stream < length (streams_of parts)) (sym same)
+    (wide-there _ old new reader read place c.requires.before.unended next).0
 
 pub end_by_width-requires-clause-channel : goal.end_by_width-requires-clause-channel
 end_by_width-requires-clause-channel g c =
     let old = g.W.Windows.session c.args.windows.now in
     let new = g.W.Windows.session c.next_window.new.self in
-    let along = c.requires.along in
-    let next : NextWindow g.W.Windows.relaxes old new c.args.feeds.now c.next_window.new.feeds (Err (Wide c.in-Err-Wide.place)) =
-    rw (sym c.in-Err-Wide.field-0-is) c.in-Err-Wide.ensures.next in
-    let same = c.plant-in-Err-Wide.ensures.plant ∙ same-parts _ old new _ _ _ next in
+    let reader = feeding g.E.Source.left g.E.Source.faults c.args.feeds.now c.args.extra.now in
+    let read = feeding g.E.Source.left g.E.Source.faults c.next_window.new.feeds c.next_window.new.source in
     let place = c.in-Err-Wide.place in
-    let first = c.sessions_follow_the_run.ensures.wide _ old new _ _ place along.session_is along.follows along.unended next in
+    let next : NextWindow g.W.Windows.relaxes old new reader read (Err (Wide place)) =
+    rw (sym c.in-Err-Wide.field-0-is) c.in-Err-Wide.ensures in
+    let same = c.plant-in-Err-Wide.ensures.plant ∙ same-parts _ old new reader read _ next in
     subst (λ parts. place.channel < length (channels (is_signal parts place.stream))) (sym same)
-    (named-channel old.parts (streams_of_run old.parts) place first.wide_is)
+    (wide-there _ old new reader read place c.requires.before.unended next).1
 
-pub returns-in-Err-Wide : goal.returns-in-Err-Wide
-returns-in-Err-Wide g c =
+pub returns-in_ok-window_texts-in-Ok-clause-texts : goal.returns-in_ok-window_texts-in-Ok-clause-texts
+returns-in_ok-window_texts-in-Ok-clause-texts g c records along =
     let old = g.W.Windows.session c.args.windows.now in
     let new = g.W.Windows.session c.next_window.new.self in
-    let along = c.requires.along in
-    let next : NextWindow g.W.Windows.relaxes old new c.args.feeds.now c.next_window.new.feeds (Err (Wide c.in-Err-Wide.place)) =
-    rw (sym c.in-Err-Wide.field-0-is) c.in-Err-Wide.ensures.next in
-    let same = c.plant-in-Err-Wide.ensures.plant ∙ same-parts _ old new _ _ _ next in
+    let reader = feeding g.E.Source.left g.E.Source.faults c.args.feeds.now c.args.extra.now in
+    let read = feeding g.E.Source.left g.E.Source.faults c.next_window.new.feeds c.next_window.new.source in
+    let parts = old.parts in
+    let w = c.args.index in
+    let window = c.in-Ok.window in
+    let texts = c.in_ok-window_texts-in-Ok.field-0 in
+    let relaxes = g.W.Windows.relaxes in
+    let laws = c.sessions_follow_the_run.ensures in
+    let next = c.in-Ok.ensures in
+    let here = at-window old w c.requires.before.tick c.requires.more in
+    let kind = same-kind c.args.command relaxes c.requires.writes ∙ sym c.traces-relaxed.ensures in
+    let same = same-parts _ old new reader read _ next in
+    let run = at-this (λ first n. HasRunAt parts records first n window) old w here
+    (laws.window relaxes records old new reader read window along next) in
+    let made = at-this (λ first n. IsMadeBy relaxes (run_plan parts (given_by parts records) first n) window) old w here
+    (laws.made relaxes records old new reader read window along next) in
+    let are : AreTextsOf relaxes parts w window texts =
+    subst (λ relaxes. AreTextsOf relaxes parts w window texts) (sym kind)
+    (subst (λ parts. AreTextsOf c.traces-relaxed.result parts w window texts) (c.plant.ensures.plant ∙ same)
+    c.in_ok-window_texts-in-Ok.ensures) in
+    record {
+      texts_are = as-texts relaxes parts records w window texts run made are;
+      accepted = record {
+        taken = at-this (λ first n. refusal_by parts records (first + n) ≡ None) old w here
+            (laws.taken relaxes records old new reader read window along next);
+        narrow = at-this (λ first n. AreNarrowEnough parts (bands_by parts records) first n) old w here
+            (laws.narrow relaxes records old new reader read window along next);
+      };
+      along = laws.along relaxes records old new reader read window along next;
+      read_up = read-with relaxes parts records old new reader read window (λ text. laws.whole relaxes text old new reader read window)
+          along next;
+    }
+
+pub returns-in-Err-Wide-clause-texts : goal.returns-in-Err-Wide-clause-texts
+returns-in-Err-Wide-clause-texts g c records along =
+    let old = g.W.Windows.session c.args.windows.now in
+    let new = g.W.Windows.session c.next_window.new.self in
+    let reader = feeding g.E.Source.left g.E.Source.faults c.args.feeds.now c.args.extra.now in
+    let read = feeding g.E.Source.left g.E.Source.faults c.next_window.new.feeds c.next_window.new.source in
+    let parts = old.parts in
+    let w = c.args.index in
     let place = c.in-Err-Wide.place in
-    let here = at-window old c.args.index along.tick c.requires.more in
-    let first = c.sessions_follow_the_run.ensures.wide _ old new _ _ place along.session_is along.follows along.unended next in
-    stopped-at c.args.command g.W.Windows.relaxes old.parts c.plant-in-Err-Wide.result.now c.args.index old.tick _ new c.next_window.new.feeds place _ same
-    here.0 here.1 first c.end_by_width.ensures
+    let relaxes = g.W.Windows.relaxes in
+    let laws = c.sessions_follow_the_run.ensures in
+    let here = at-window old w c.requires.before.tick c.requires.more in
+    let next : NextWindow relaxes old new reader read (Err (Wide place)) = rw (sym c.in-Err-Wide.field-0-is) c.in-Err-Wide.ensures in
+    stopped-at c.args.command relaxes parts c.plant-in-Err-Wide.result.now records w new reader read place _
+    (c.plant-in-Err-Wide.ensures.plant ∙ same-parts _ old new reader read _ next) c.requires.more
+    (at-this (λ first n. refusal_by parts records (first + n) ≡ None) old w here
+    (laws.wide_taken relaxes records old new reader read place along next))
+    (at-this (λ first n. IsFirstWide parts (bands_by parts records) first n place) old w here
+    (laws.wide relaxes records old new reader read place along next)) c.end_by_width.ensures
+
+pub returns-in-Err-Feed-clause-texts : goal.returns-in-Err-Feed-clause-texts
+returns-in-Err-Feed-clause-texts g c records along =
+    let old = g.W.Windows.session c.args.windows.now in
+    let new = g.W.Windows.session c.next_window.new.self in
+    let reader = feeding g.E.Source.left g.E.Source.faults c.args.feeds.now c.args.extra.now in
+    let read = feeding g.E.Source.left g.E.Source.faults c.next_window.new.feeds c.next_window.new.source in
+    let parts = old.parts in
+    let w = c.args.index in
+    let fault = c.in-Err-Feed.fault in
+    let relaxes = g.W.Windows.relaxes in
+    let here = at-window old w c.requires.before.tick c.requires.more in
+    let next : NextWindow relaxes old new reader read (Err (Feed fault)) = rw (sym c.in-Err-Feed.field-0-is) c.in-Err-Feed.ensures in
+    let failed : fault ≡ ReadFault → Rose reader.faults read.faults =
+    λ e. c.readers_stay_ready.ensures.failed relaxes old new reader read c.requires.before.unended c.requires.before.faultless
+    (subst (λ f. NextWindow relaxes old new reader read (Err (Feed f))) e next) in
+    subst (λ end. TextsEnded c.args.command relaxes parts records w new reader read (Err end)) (sym c.end_by_feeds.ensures)
+    (unfed-at c.args.command relaxes parts records w new reader read fault c.requires.more
+    (at-this (λ first n. (refusal_by parts records (first + n) ≡ Some fault) ⊎ IsFailure fault) old w here
+    (c.sessions_follow_the_run.ensures.fed relaxes records old new reader read fault along next)) failed)
