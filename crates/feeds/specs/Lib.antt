@@ -1,3 +1,10 @@
+pub mod Records
 pub mod Given
+pub mod Held
 pub mod Ticks
+pub mod ReaderOf
+pub mod Standing
+pub mod Taking
+pub mod Filling
 pub mod Reader
+pub mod Window

@@ -51,6 +51,24 @@ fn given_tube(alloc: Global, kind: &FeedKind, first: u32, ticks: u32) -> Result<
 }
 
 /// The tube of each feed over `ticks` ticks from tick `first` on, by the pieces of the plant file.
+pub(crate) fn tubes_of(
+    alloc: Global,
+    plant: &Plant,
+    first: u32,
+    ticks: u32,
+) -> Result<Vec<Tube>, AllocError>
+    requires { first + ticks ≤ plant.now.ticks }
+    ensures { IfOk result (λ tubes. tubes.items ≡ given_tubes plant.now first ticks) }
+{
+    let feeds = plant.parts().feeds.as_slice();
+    let mut tubes = Vec::with_capacity(alloc, feeds.len())?;
+    for feed in feeds {
+        tubes.push(given_tube(alloc, &feed.kind, first, ticks)?)?;
+    }
+    Ok(tubes)
+}
+
+/// The tubes of a plant's feeds over `ticks` ticks from tick `first` on, by the pieces of the plant file.
 pub fn given_tubes(
     alloc: Global,
     plant: &Plant,
@@ -60,10 +78,5 @@ pub fn given_tubes(
     requires { first + ticks ≤ plant.now.ticks }
     ensures { IfOk result (λ feeds. feeds ≡ given_tubes plant.now first ticks) }
 {
-    let feeds = plant.parts().feeds.as_slice();
-    let mut tubes = Vec::with_capacity(alloc, feeds.len())?;
-    for feed in feeds {
-        tubes.push(given_tube(alloc, &feed.kind, first, ticks)?)?;
-    }
-    Ok(FeedTubes::new(tubes))
+    Ok(FeedTubes::new(tubes_of(alloc, plant, first, ticks)?))
 }

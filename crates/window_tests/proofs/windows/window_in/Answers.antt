@@ -1,8 +1,9 @@
 -- The opening bands and the given tubes plan a window.
-use Rattle.std.proofs.Common.{◌∙◌, ◌+◌, ◌≤◌, List, sym, subst₂, ap, arith}
+use Rattle.std.proofs.Common.{◌∙◌, ◌+◌, ◌≤◌, List, None, sym, subst₂, ap, arith}
 use Rattle.quant.specs.Interval.{Interval}
 use Rattle.relaxation.specs.Tube.{Tube}
 use Rattle.parts.specs.Parts.{FileParts}
+use Rattle.parts.specs.Given.{given_bands}
 use Rattle.renewal.specs.Plan.{IsPlan}
 use Rattle.window_tests.proofs.windows.window_in.Goals as goal
 
@@ -11,9 +12,11 @@ new-requires c =
     let parts = c.args.plant.now in
     let n = c.args.ticks in
     let law = c.windows_cut_the_run.ensures in
+    let plant = c.parts.ensures.plant in
     let ticks = ap (λ (p : FileParts). p.ticks) (c.behind-plant.view_is ∙ c.parts.ensures.parts) in
     let inside : 0 + n ≤ parts.ticks = omega (arith, ticks, c.if-parts-ticks.false) in
     subst₂ (λ (carried : List (List Interval)) (feeds : List Tube).
     IsPlan (record { parts = parts; first = 0; ticks = n; carried = carried; feeds = feeds }))
-    (law.opening parts n ∙ sym c.in_ok-carried.ensures) (sym c.in_ok-feeds.ensures)
-    (law.plan parts 0 n c.parts.ensures.plant (omega arith) (omega arith) inside)
+    (law.opening parts (given_bands parts) n ∙ sym c.in_ok-carried.ensures) (sym c.in_ok-feeds.ensures)
+    (law.plan parts (given_bands parts) 0 n plant (c.records_stay_in_limits.ensures parts None plant) (omega arith)
+    (omega arith) inside)

@@ -3,7 +3,7 @@ use Rattle.std.proofs.Common.{◌≡◌, ◌∙◌, ℕ, length, map, ap, arith}
 use Rattle.std.specs.List.{range_with_len}
 use Rattle.parts.specs.Parts.{FileParts}
 use Rattle.feeds.proofs.Ticks.{feed_tube, tubes-more}
-use Rattle.feeds.proofs.given.given_tubes.Goals as goal
+use Rattle.feeds.proofs.given.tubes_of.Goals as goal
 
 pub loop-feed-preserved : goal.loop-feed-preserved
 loop-feed-preserved c =
@@ -20,5 +20,5 @@ returns c =
     ∙ ap (λ (p : FileParts). p.feeds) (c.behind-plant.view_is ∙ c.parts.ensures.parts) in
     let all : c.loop-feed.feed-index ≡ length parts.feeds =
     omega (arith, ap length feeds, c.loop-feed-test.false, c.loop-feed.auto.feed-index-end) in
-    c.new.ensures ∙ c.loop-feed.invariant
+    c.loop-feed.invariant
     ∙ ap (λ (n : ℕ). map (feed_tube parts c.args.first c.args.ticks) (range_with_len 0 n)) all

@@ -3,7 +3,7 @@ use Rattle.std.proofs.Common.{◌≡◌, ◌+◌, map}
 use Rattle.std.specs.List.{range_with_len}
 use Rattle.relaxation.specs.Tube.{tube_of}
 use Rattle.parts.specs.Given.{given_bands}
-use Rattle.feeds.proofs.given.given_tubes.Given as goal
+use Rattle.feeds.proofs.given.tubes_of.Given as goal
 
 abbrev pub invariant-loop-feed : goal.invariant-loop-feed
 invariant-loop-feed l = l.tubes.items

@@ -1,0 +1,21 @@
+-- The tubes are filled, and the run ends where it has to.
+use Rattle.std.proofs.Common.{◌≡◌, ◌∙◌, ◌+◌, List, length, take, drop, ap, sym, subst, arith}
+use Rattle.std.proofs.lemmas.List.{take_at}
+use Rattle.relaxation.specs.Tube.{Tube}
+use Rattle.feeds.specs.Window.{FillsWindow}
+use Rattle.feeds.proofs.Ends.{fills-window}
+use Rattle.feeds.proofs.filling.window_tubes.Goals as goal
+
+pub overflow_add-first : goal.overflow_add-first
+overflow_add-first c = let most = c.parts.ensures.plant.ranges.ticks.1 in omega (arith, c.requires.inside)
+
+pub returns-clause-fills : goal.returns-clause-fills
+returns-clause-fills c =
+    let parts = c.args.plant.now in
+    let fills = c.in_ok-fill.ensures.fills in
+    let length_is : length c.fill.new.tubes ≡ c.in_ok-tubes.tubes.len = omega arith in
+    let same = c.new.ensures ∙ take_at c.fill.new.tubes (drop (length c.fill.new.tubes) c.in_ok-tubes.tubes.items)
+    c.in_ok-tubes.tubes.len length_is in
+    subst (FillsWindow parts c.args.text.now c.args.first c.args.ticks c.args.taken.now c.end_run.new.taken) (sym same)
+    (fills-window parts c.parts.ensures.plant c.args.text.now c.args.first c.args.ticks c.requires.inside c.args.taken.now
+    c.fill.new.taken c.end_run.new.taken c.fill.new.tubes fills c.in_ok-end_run.ensures.ends)
