@@ -1,7 +1,7 @@
 -- Records that are accepted: their channels are there, and their bands lie in the limits.
-use Rattle.std.proofs.Common.{◌≡◌, ◌∙◌, ℕ, ◌<◌, ◌≤◌, ℤ, ◌^◌, ◌≤ℤ◌, int_le, nat_abs, Bool, true, false, cond, ltb, leb, ◌&&◌, List, [], ◌∷◌, length, get_or, Option, Some, None, Result, Ok, Err, bytes_eq, ltb-false, refl, sym, ap, subst, arith}
-use Rattle.std.specs.Prelude.{nat_lt, slice_index_or}
-use Rattle.std.specs.List.{position, before_first, after_first, AllByRecursion}
+use Rattle.std.proofs.Common.{◌≡◌, ◌∙◌, ℕ, ◌<◌, ◌≤◌, ℤ, ◌^◌, ◌≤ℤ◌, int_le, Bool, true, false, cond, ◌&&◌, List, [], ◌∷◌, length, get_or, Option, Some, None, Result, Ok, Err, bytes_eq, ltb-false, refl, sym, ap, subst, arith}
+use Rattle.std.specs.Prelude.{nat_lt}
+use Rattle.std.specs.List.{position, before_first, after_first}
 use Rattle.std.proofs.lemmas.Int.{ints}
 use Rattle.std.proofs.lemmas.Bool.Decides.{nat_tests}
 use Rattle.quant.specs.Interval.{Interval, IsBand, IsInside}
@@ -11,7 +11,7 @@ use Rattle.lines.specs.Numbers.{number_in}
 use Rattle.parts.specs.Parts.{FileParts}
 use Rattle.plant_streams.specs.declared.streams.Stream.{Stream}
 use Rattle.plant_streams.specs.Streams.{streams_of}
-use Rattle.plant_streams.specs.Limits.{limits_at, limit_at, channel_limits, source_limits, source_at, stream_limits}
+use Rattle.plant_streams.specs.Limits.{limits_at, limit_at, channel_limits, source_limits, stream_limits}
 use Rattle.plant.specs.Sound.{IsPlant}
 use Rattle.plant.proofs.Lookups.{at-map, item}
 use Rattle.plant.proofs.PlantLaws.{plant-sound}
@@ -19,7 +19,7 @@ use Rattle.tables.specs.Output.{channels}
 use Rattle.feeds.specs.declared.record.FeedChannel.{FeedChannel}
 use Rattle.feeds.specs.declared.record.Record.{Record}
 use Rattle.feeds.specs.declared.reader.FeedFault.{FeedFault}
-use Rattle.feeds.specs.declared.reader.FeedFault.TheVariants.{BadRecord, UnknownPlace, Order, Outside}
+use Rattle.feeds.specs.declared.reader.FeedFault.TheVariants.{Order, Outside}
 use Rattle.feeds.specs.Records.{Written, last_tick, small_tick, tick_in, end_in, band_in, written_as, written_by, written_in, feed_channels, channel_found, channel_of, place_in, judged_at, judged_as, judged}
 use Rattle.feeds.specs.Standing.{IsChannelOf, IsRecordFor}
 
@@ -204,10 +204,7 @@ pub judged-fits : (parts : FileParts) (at before : ℕ) (line : List ℕ) (one :
 judged-fits parts at before line one plant e =
     judged-as-fits parts at before (written_in line) one plant (written-fits line) e
 
--- numbers of feeds and of channels are small
-pub small-feed : (parts : FileParts) (f : ℕ) → IsPlant parts → f < length parts.feeds → f < 2 ^ 32
-small-feed parts f plant l = let most = plant.ranges.feeds.0 in omega arith
-
+-- numbers of channels are small
 pub small-channel : (parts : FileParts) (f c : ℕ) → IsPlant parts → f < length parts.feeds → c < length (limits_at parts f) →
     c < 2 ^ 32
 small-channel parts f c plant l k = let most = few-channels parts f plant l in omega arith

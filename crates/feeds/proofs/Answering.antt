@@ -1,5 +1,5 @@
 -- What a reader of records answers, and where it stands then.
-use Rattle.std.proofs.Common.{◌≡◌, ◌≢◌, ◌∙◌, ℕ, ◌+◌, ◌<◌, ◌≤◌, Bool, true, false, cond, eqb, ltb, List, [], ◌∷◌, ◌++◌, length, take, drop, Option, Some, None, IfSome, IfOk, IsTrue, Result, Ok, Err, refl, sym, ap, subst, arith, inl, inr, ltb-false}
+use Rattle.std.proofs.Common.{◌≡◌, ◌∙◌, ℕ, ◌+◌, ◌≤◌, Bool, true, false, cond, eqb, List, [], ◌++◌, length, take, drop, Option, Some, None, IfSome, IfOk, Result, Ok, Err, refl, sym, ap, subst, arith, inl, inr, ltb-false}
 use Rattle.std.specs.List.{AllByRecursion}
 use Rattle.std.proofs.lemmas.Bool.{ltb_from_iff}
 use Rattle.std.proofs.lemmas.List.{drop_all}
@@ -9,17 +9,15 @@ use Rattle.parts.specs.Parts.{FileParts}
 use Rattle.plant.specs.Sound.{IsPlant}
 use Rattle.feeds.specs.declared.record.Record.{Record}
 use Rattle.feeds.specs.declared.taken.Taken.{Taken}
-use Rattle.feeds.specs.declared.records.Records.{Records}
 use Rattle.feeds.specs.declared.reader.FeedFault.{FeedFault}
-use Rattle.feeds.specs.Records.{ReadRecords, Entry, entries_of, read_from, read_text, is_too_long, most_bytes}
-use Rattle.feeds.specs.Given.{fed_tubes}
-use Rattle.feeds.specs.Standing.{IsRecordFor, IsTakenFor, bytes_read, AreRecordsFor, as_list, unread, pending, HasTaken, first_part, StandsAt, nothing_taken}
+use Rattle.feeds.specs.Records.{Entry, read_from, read_text, is_too_long, most_bytes}
+use Rattle.feeds.specs.Standing.{IsRecordFor, IsTakenFor, bytes_read, as_list, unread, pending, HasTaken, first_part, StandsAt, nothing_taken}
 use Rattle.feeds.specs.Taking.{entries_at}
 use Rattle.feeds.specs.Filling.{filled_bands}
 use Rattle.feeds.specs.Reader.{AreFeedTubes}
-use Rattle.feeds.specs.Window.{FillsWindow, AnswersWindow, AnswersText, GivesIn}
+use Rattle.feeds.specs.Window.{AnswersWindow, AnswersText, GivesIn}
 use Rattle.feeds.proofs.Turns.{from-turn, text-turn, all-fit}
-use Rattle.feeds.proofs.Recorded.{AreHeldFor, filled-within}
+use Rattle.feeds.proofs.Recorded.{filled-within}
 use Rattle.feeds.proofs.Windows.{fed-within}
 use Rattle.feeds.proofs.Texts.{tubes-same, refusal-some, refusal-none, nothing-left, has-taken}
 
@@ -36,10 +34,11 @@ rest-of text = elim (is_too_long text) as (λ b. is_too_long text ≡ b → cond
 read-first : (text : List ℕ) (up : ReadText) (left : Option (List ℕ)) → ReadsUp most_bytes text up left →
     (up ≡ first_part text) × (left ≡ Some (drop (most_bytes + 1) text))
 read-first text up left reads =
-    let more : up.more ≡ is_too_long text = ltb_from_iff reads.more in
-    (ap (λ bytes. record { bytes = bytes; more = up.more }) reads.bytes
-    ∙ ap (λ longer. record { bytes = take most_bytes text; more = longer }) more,
-    reads.rest ∙ ap (λ longer. Some (cond longer (drop (most_bytes + 1) text) [])) more ∙ ap Some (rest-of text))
+    let more : up.more ≡ is_too_long text = ltb_from_iff reads.more in (
+      ap (λ bytes. record { bytes = bytes; more = up.more }) reads.bytes
+          ∙ ap (λ longer. record { bytes = take most_bytes text; more = longer }) more,
+      reads.rest ∙ ap (λ longer. Some (cond longer (drop (most_bytes + 1) text) [])) more ∙ ap Some (rest-of text),
+    )
 
 -- the text is stood in, once its first bytes were read
 pub record IsRead (parts : FileParts) (text : List ℕ) (asked : ℕ) (up : ReadText) (left : Option (List ℕ)) (taken : Taken) :
@@ -126,11 +125,12 @@ module _ (parts : FileParts) (plant : IsPlant parts) (first n : ℕ) (some : 1 �
   by-text : (text : List ℕ) (asked : ℕ) (left : Option (List ℕ)) (answer : Result (List Tube) FeedFault) → asked ≤ first →
       IsRead parts text asked up left old → AnswersWindow parts up first n old read answer →
       AnswersText parts text first n (record { text = Some up; taken = read }) left answer
-  by-text text asked left (Ok tubes) later is fills =
-      (refusal-none parts plant text up first n asked some inside later old is.has read tubes fills,
-      tubes-same parts plant text up first n asked some inside later old is.has tubes fills.tubes_are,
-      (is.part, is.rest, has-taken parts plant text up first n asked some inside later old is.has read tubes fills),
-      λ e. is.rest ∙ ap Some (nothing-left parts plant text up first n asked some inside later old is.has read tubes fills e))
+  by-text text asked left (Ok tubes) later is fills = (
+    refusal-none parts plant text up first n asked some inside later old is.has read tubes fills,
+    tubes-same parts plant text up first n asked some inside later old is.has tubes fills.tubes_are,
+    (is.part, is.rest, has-taken parts plant text up first n asked some inside later old is.has read tubes fills),
+    λ e. is.rest ∙ ap Some (nothing-left parts plant text up first n asked some inside later old is.has read tubes fills e),
+  )
   by-text text asked left (Err fault) later is (inl refused) =
       inl (refusal-some parts plant text up first n asked some inside later old is.has fault refused)
   by-text text asked left (Err fault) later is (inr starved) = inr (inr starved)

@@ -1,6 +1,6 @@
 -- Bands that are held take the place of others, channel by channel and feed by feed.
-use Rattle.std.proofs.Common.{◌≡◌, ◌≢◌, ◌∙◌, ℕ, zero, suc, ◌+◌, ◌<◌, ◌≤◌, List, [], ◌∷◌, length, take, get_or, set, Option, Some, None, refl, sym, ap, arith, length-set, get_or-set_same, add-one}
-use Rattle.std.proofs.lemmas.List.{set-set, take_all}
+use Rattle.std.proofs.Common.{◌≡◌, ◌∙◌, ℕ, zero, suc, ◌+◌, ◌<◌, List, [], ◌∷◌, length, take, get_or, set, Option, Some, None, refl, sym, ap, arith, get_or-set_same, add-one}
+use Rattle.std.proofs.lemmas.List.{set-set}
 use Rattle.quant.specs.Interval.{Interval}
 use Rattle.relaxation.specs.Tube.{Tube, at}
 use Rattle.feeds.specs.Held.{covered}

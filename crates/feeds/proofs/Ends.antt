@@ -1,18 +1,17 @@
 -- How a window ends.
-use Rattle.std.proofs.Common.{◌≡◌, ◌≢◌, ◌∙◌, ℕ, ◌+◌, ◌<◌, ◌≤◌, List, refl, sym, subst, arith, inl, inr}
+use Rattle.std.proofs.Common.{ℕ, ◌+◌, ◌≤◌, List, refl, sym, subst, arith, inl, inr}
 use Rattle.std.proofs.lemmas.Bool.{cases_eq}
 use Rattle.flow_edge.specs.ReadText.{ReadText}
 use Rattle.relaxation.specs.Tube.{Tube}
 use Rattle.parts.specs.Parts.{FileParts}
 use Rattle.plant.specs.Sound.{IsPlant}
 use Rattle.feeds.specs.declared.taken.Taken.{Taken}
-use Rattle.feeds.specs.declared.reader.FeedFault.{FeedFault}
 use Rattle.feeds.specs.Records.{last_tick}
 use Rattle.feeds.specs.Standing.{pending}
-use Rattle.feeds.specs.Taking.{Takes, HasCome, MeetsRefusal}
-use Rattle.feeds.specs.Window.{Fills, HasEnded, FillsWindow, IsRefused}
+use Rattle.feeds.specs.Taking.{Takes, HasCome}
+use Rattle.feeds.specs.Window.{Fills, HasEnded, FillsWindow}
 use Rattle.feeds.proofs.Fillings.{filled-all}
-use Rattle.feeds.proofs.Takings.{takes-then, refused-then}
+use Rattle.feeds.proofs.Takings.{takes-then}
 
 module _ (parts : FileParts) (plant : IsPlant parts) (text : ReadText) (first n : ℕ) (inside : first + n ≤ parts.ticks)
     (old mid : Taken) where
@@ -28,29 +27,17 @@ module _ (parts : FileParts) (plant : IsPlant parts) (text : ReadText) (first n 
       let tubes_are = filled-all parts plant old.held (pending parts text old).records first n tubes fills.filled in
       elim (cases_eq (first + n) parts.ticks) [
         | inl e ↦ record {
-              tubes_are = tubes_are;
-              end = last_tick + 1;
-              takes = takes-then parts text (first + n) (last_tick + 1) old mid read short fills.takes (ended.all e).0;
-              ends = λ is. (ended.all is).1;
-              goes_on = λ other. absurd (other e);
-            }
+          tubes_are = tubes_are;
+          end = last_tick + 1;
+          takes = takes-then parts text (first + n) (last_tick + 1) old mid read short fills.takes (ended.all e).0;
+          ends = λ is. (ended.all is).1;
+          goes_on = λ other. absurd (other e);
+        }
         | inr ne ↦ record {
-              tubes_are = tubes_are;
-              end = first + n;
-              takes = subst (Takes parts text (first + n) old) (sym (ended.stays ne)) fills.takes;
-              ends = λ is. absurd (ne is);
-              goes_on = λ other. (refl, subst (HasCome parts text (first + n)) (sym (ended.stays ne)) fills.come);
-            }
+          tubes_are = tubes_are;
+          end = first + n;
+          takes = subst (Takes parts text (first + n) old) (sym (ended.stays ne)) fills.takes;
+          ends = λ is. absurd (ne is);
+          goes_on = λ other. (refl, subst (HasCome parts text (first + n)) (sym (ended.stays ne)) fills.come);
+        }
       ]
-
-  -- a refusal that is met before the end of the window, or behind it where the run ends
-  pub refused-before : (fault : FeedFault) → MeetsRefusal parts text (first + n) old fault →
-      IsRefused parts text first n old fault
-  refused-before fault refused =
-      record { refusal = refused.refusal; before = λ other. refused.before; other = refused.other }
-
-  pub refused-behind : (fault : FeedFault) → Takes parts text (first + n) old mid → first + n ≡ parts.ticks →
-      MeetsRefusal parts text (last_tick + 1) mid fault → IsRefused parts text first n old fault
-  refused-behind fault takes e refused =
-      let all = refused-then parts text (first + n) (last_tick + 1) old mid fault short takes refused in
-      record { refusal = all.refusal; before = λ other. absurd (other e); other = all.other }

@@ -1,5 +1,5 @@
 -- The tubes of a window get what records say, tick by tick.
-use Rattle.std.proofs.Common.{◌≡◌, ◌≢◌, ◌∙◌, ℕ, ◌+◌, ◌<◌, ◌≤◌, Bool, true, false, cond, leb, List, [], ◌∷◌, ◌++◌, length, get_or, set, Option, refl, sym, ap, subst, arith, inl, inr, length-set, get_or-set_same, get_or-set_other, le-leb}
+use Rattle.std.proofs.Common.{◌≡◌, ◌≢◌, ◌∙◌, ℕ, ◌+◌, ◌<◌, ◌≤◌, true, false, cond, leb, List, [], ◌∷◌, ◌++◌, length, Option, refl, sym, ap, subst, arith, inl, inr, length-set, get_or-set_same, get_or-set_other, le-leb}
 use Rattle.std.specs.List.{AllByRecursion}
 use Rattle.std.proofs.lemmas.Bool.{cases_eq, lt-leb}
 use Rattle.std.proofs.lemmas.List.FromFn.{fill_by_all}
@@ -16,7 +16,7 @@ use Rattle.feeds.specs.declared.record.Record.{Record}
 use Rattle.feeds.specs.declared.taken.Taken.{Taken}
 use Rattle.feeds.specs.Given.{fed_tubes, given_tubes}
 use Rattle.feeds.specs.Records.{ReadRecords}
-use Rattle.feeds.specs.Held.{AreHeldIn, held_of, held_with, held_after, held_at, covered}
+use Rattle.feeds.specs.Held.{held_of, held_with, held_after, held_at, covered}
 use Rattle.feeds.specs.Standing.{IsTakenFor, pending}
 use Rattle.feeds.specs.Taking.{Takes, HasCome}
 use Rattle.feeds.specs.Filling.{covered_at, tube_in, CanCover, AreCoveredBefore, filled_bands, AreFilledBefore}

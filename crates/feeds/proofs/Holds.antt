@@ -1,6 +1,5 @@
 -- What is held after records: as many channels of each feed, and each band in its limit.
-use Rattle.std.proofs.Common.{◌≡◌, ◌≢◌, ◌∙◌, ℕ, zero, suc, ◌<◌, ◌≤◌, List, [], ◌∷◌, ◌++◌, length, get_or, set, Option, Some, None, IfSome, pos, refl, sym, ap, subst, arith, inl, inr, length-set, get_or-set_same, get_or-set_other}
-use Rattle.std.specs.List.{AllByRecursion}
+use Rattle.std.proofs.Common.{◌≡◌, ◌∙◌, ℕ, zero, suc, ◌<◌, List, [], ◌∷◌, length, get_or, set, Option, Some, None, IfSome, pos, refl, sym, ap, subst, arith, inl, inr, length-set, get_or-set_same, get_or-set_other}
 use Rattle.std.proofs.lemmas.Bool.{cases_eq}
 use Rattle.quant.specs.Interval.{Interval, IsBand, IsInside, point}
 use Rattle.parts.specs.Parts.{FileParts}
@@ -65,19 +64,7 @@ pub ahead-placed : (parts : FileParts) (bytes : List ℕ) (taken : Taken) → Is
     IfSome taken.ahead (HasPlaceFor taken.held)
 ahead-placed parts bytes taken is = placed parts bytes taken taken.ahead is is.ahead
 
--- another record is ahead, or is held
-pub with-ahead : (parts : FileParts) (bytes : List ℕ) (taken : Taken) (one : Record) → IsTakenFor parts bytes taken →
-    IsRecordFor parts one → (1 ≤ taken.count) × (one.tick ≡ taken.last) →
-    IsTakenFor parts bytes (record taken { ahead = Some one })
-with-ahead parts bytes taken one is fits last = record {
-  inside = is.inside;
-  counted = is.counted;
-  feeds = is.feeds;
-  held = is.held;
-  ahead = fits;
-  last = last;
-}
-
+-- one record more is held
 pub with-held : (parts : FileParts) (bytes : List ℕ) (taken : Taken) (one : Record) → IsTakenFor parts bytes taken →
     IsRecordFor parts one → IsTakenFor parts bytes (record taken { held = held_with taken.held one })
 with-held parts bytes taken one is fits = record {
@@ -94,7 +81,12 @@ ahead-held : (parts : FileParts) (bytes : List ℕ) (taken : Taken) (ahead : Opt
     IfSome ahead (IsRecordFor parts) →
     IsTakenFor parts bytes (record taken { ahead = None; held = held_after taken.held (as_list ahead) })
 ahead-held parts bytes taken None is fits = record {
-  inside = is.inside; counted = is.counted; feeds = is.feeds; held = is.held; ahead = tt; last = tt;
+  inside = is.inside;
+  counted = is.counted;
+  feeds = is.feeds;
+  held = is.held;
+  ahead = tt;
+  last = tt;
 }
 ahead-held parts bytes taken (Some one) is fits = record {
   inside = is.inside;

@@ -1,5 +1,5 @@
 -- What a plant file and records give lies in the limits.
-use Rattle.std.proofs.Common.{◌≡◌, ℕ, zero, suc, ◌<◌, Bool, true, false, cond, eqb, leb, ◌&&◌, List, [], ◌∷◌, length, get_or, set, Option, Some, None, pos, subst, arith, eqb-true, refl}
+use Rattle.std.proofs.Common.{◌≡◌, ℕ, zero, suc, Bool, true, false, cond, eqb, leb, ◌&&◌, List, [], ◌∷◌, get_or, set, Option, Some, None, pos, subst, eqb-true, refl}
 use Rattle.std.specs.List.{AllByRecursion}
 use Rattle.quant.specs.Interval.{Interval, IsBand, IsInside, AllBands, AllInside, point}
 use Rattle.parts.specs.Parts.{FileParts}

@@ -1,5 +1,5 @@
 -- The lines that are left of a text, by the first of them.
-use Rattle.std.proofs.Common.{◌≡◌, ◌≢◌, ◌∙◌, ℕ, ◌-◌, ◌<◌, ◌≤◌, Bool, true, false, cond, List, [], ◌∷◌, ◌++◌, length, map, take, drop, get_or, zero, suc, subst, refl, ap, sym, arith}
+use Rattle.std.proofs.Common.{◌≡◌, ◌∙◌, ℕ, ◌-◌, ◌<◌, Bool, true, false, cond, List, [], ◌∷◌, ◌++◌, length, map, take, drop, get_or, zero, suc, subst, refl, ap, sym, arith}
 use Rattle.std.proofs.lemmas.Bool.Decides.{nat_tests}
 use Rattle.std.proofs.lemmas.List.{take-map}
 use Rattle.std.proofs.lemmas.List.Elements.{filter_passes}
@@ -8,9 +8,9 @@ use Rattle.std.specs.Prelude.{slice_index, slice_range, not, ◌==◌}
 use Rattle.std.specs.List.{filter}
 use Rattle.std.specs.Str.Lines.{strip_carriage_return}
 use Rattle.lines.specs.declared.cutting.Line.{Line}
-use Rattle.lines.specs.Lines.{lines_of, lines_in, ended_lines_of, pieces_of, line_feed, IsLineAt}
+use Rattle.lines.specs.Lines.{lines_of, ended_lines_of, pieces_of, line_feed, IsLineAt}
 use Rattle.flow_edge.specs.ReadText.{ReadText}
-use Rattle.feeds.specs.Records.{Entry, whole, cut_off, entries_of}
+use Rattle.feeds.specs.Records.{whole, cut_off, entries_of}
 use Rattle.feeds.specs.Taking.{entries_at}
 
 -- a filter that keeps nothing keeps nothing of a first part

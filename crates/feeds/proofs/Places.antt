@@ -1,5 +1,5 @@
 -- Names of feeds and of their channels.
-use Rattle.std.proofs.Common.{◌≡◌, ◌∙◌, ℕ, ◌<◌, Bool, false, List, [], ◌∷◌, length, map, get_or, Option, Some, None, bytes_eq, sym, ap, refl, arith}
+use Rattle.std.proofs.Common.{◌≡◌, ◌∙◌, ℕ, ◌<◌, Bool, false, List, [], ◌∷◌, length, map, get_or, Option, bytes_eq, sym, ap, refl, arith}
 use Rattle.std.specs.List.{position, position_or_len, before_first, after_first}
 use Rattle.std.proofs.lemmas.List.{length-map}
 use Rattle.plant_names.specs.Name.{is_dot}

@@ -1,5 +1,5 @@
 -- What a reader answers.
-use Rattle.std.proofs.Common.{◌≡◌, ◌≢◌, ◌∙◌, ℕ, ◌+◌, ◌≤◌, List, Option, Some, None, IfSome, Result, Ok, Err, refl, sym, ap, subst, arith, inl, inr}
+use Rattle.std.proofs.Common.{◌≡◌, ℕ, ◌+◌, ◌≤◌, List, Option, Some, None, IfSome, Result, Ok, Err, refl, sym, ap, subst, arith, inr}
 use Rattle.flow_edge.specs.Faults.{Rose}
 use Rattle.relaxation.specs.Tube.{Tube}
 use Rattle.parts.specs.Parts.{FileParts}
@@ -9,30 +9,14 @@ use Rattle.feeds.specs.declared.reader.FeedFault.{FeedFault}
 use Rattle.feeds.specs.declared.reader.FeedFault.TheVariants.{ReadFault}
 use Rattle.parts.specs.Given.{given_bands}
 use Rattle.feeds.specs.Given.{given_tubes}
-use Rattle.feeds.specs.Standing.{AreRecordsFor, StandsIn, Stands, IsReaderFor, nothing_taken}
-use Rattle.feeds.specs.ReaderOf.{ReaderOf, Feeding, feeding}
+use Rattle.feeds.specs.Standing.{AreRecordsFor, StandsIn, Stands, nothing_taken}
+use Rattle.feeds.specs.ReaderOf.{Feeding, feeding}
 use Rattle.feeds.specs.Reader.{GivesBy, AreFeedTubes, Gives, fault_of}
 use Rattle.feeds.specs.Window.{AnswersPlain, AnswersStanding, GivesTubes}
 use Rattle.feeds.proofs.Recorded.{nothing-for}
 use Rattle.feeds.proofs.Windows.{fed-within, file-within}
 
 module _ {S : Type 0} (left : S → Option (List ℕ)) (faults : S → ℕ) (parts : FileParts) (first n : ℕ) where
-  -- the fault that it keeps
-  pub gives-again : (reader : ReaderOf) (source : S) (fault : FeedFault) → reader.fault ≡ Some fault → IsReaderFor parts reader →
-      Gives parts first n (feeding left faults reader source) (feeding left faults reader source) (Err fault)
-  gives-again reader source fault e is =
-      let other : reader.fault ≢ None = λ none. (let clash : Some fault ≡ None = sym e ∙ none in cc) in
-      record {
-        again = λ kept same. (cc (sym e ∙ same), refl);
-        kept = λ none. absurd (other none);
-        tubes = tt;
-        by = λ none. absurd (other none);
-        failed = λ none. absurd (other none);
-        counted = omega arith;
-        reader = is;
-        plain = λ none. (none, refl, refl);
-      }
-
   plain-by : (read : Feeding) (answer : Result (List Tube) FeedFault) → AnswersPlain parts first n answer →
       read.reader.records ≡ None → GivesBy parts None first n read answer
   plain-by read (Ok tubes) plain none = (refl, plain, none, λ e. tt)

@@ -1,5 +1,5 @@
 -- What is held covers what the plant file gives as records say.
-use Rattle.std.proofs.Common.{◌≡◌, ◌≢◌, ◌∙◌, ℕ, zero, suc, ◌+◌, ◌<◌, ◌≤◌, Bool, true, false, cond, eqb, leb, ◌&&◌, List, [], ◌∷◌, ◌++◌, length, get_or, set, map, Option, Some, None, refl, sym, ap, subst, arith, inl, inr, get_or-set_same, get_or-set_other, eq-eqb, ne_eqb, append-nil}
+use Rattle.std.proofs.Common.{◌≡◌, ◌≢◌, ◌∙◌, ℕ, zero, suc, ◌+◌, ◌<◌, Bool, true, false, cond, eqb, leb, ◌&&◌, List, [], ◌∷◌, ◌++◌, length, get_or, set, map, Option, Some, None, refl, sym, ap, subst, arith, inl, inr, get_or-set_same, get_or-set_other, eq-eqb, ne_eqb, append-nil}
 use Rattle.std.specs.List.{AllByRecursion}
 use Rattle.std.proofs.lemmas.Bool.{cases_eq}
 use Rattle.std.proofs.lemmas.List.{length-map}
@@ -14,7 +14,6 @@ use Rattle.parts.specs.declared.feeds.FeedKind.{FeedKind}
 use Rattle.parts.specs.declared.feeds.FeedKind.TheVariants as feed_kind
 use Rattle.plant_streams.specs.Limits.{limits_at}
 use Rattle.plant.specs.Sound.{IsPlant}
-use Rattle.renewal.specs.Plan.{AreWithin}
 use Rattle.feeds.specs.declared.record.Record.{Record}
 use Rattle.feeds.specs.Given.{recorded}
 use Rattle.feeds.specs.Held.{AreHeldIn, none_of, nothing_held, held_of, held_with, held_after, held_at, covered}

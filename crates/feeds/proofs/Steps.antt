@@ -1,16 +1,15 @@
 -- What is to come of a text, record by record.
-use Rattle.std.proofs.Common.{◌≡◌, ◌≢◌, ◌∙◌, ℕ, zero, suc, ◌+◌, ◌<◌, ◌≤◌, Bool, true, false, cond, eqb, List, [], ◌∷◌, ◌++◌, length, Option, Some, None, IfSome, Result, Ok, Err, bytes_eq, refl, sym, ap, subst, arith, ne_eqb}
+use Rattle.std.proofs.Common.{◌≡◌, ◌≢◌, ◌∙◌, ℕ, ◌<◌, ◌≤◌, Bool, cond, List, length, Option, None, IfSome, Result, Err, refl, sym, ap, subst, arith, ne_eqb}
 use Rattle.flow_edge.specs.ReadText.{ReadText}
 use Rattle.parts.specs.Parts.{FileParts}
 use Rattle.feeds.specs.declared.record.Record.{Record}
 use Rattle.feeds.specs.declared.taken.Taken.{Taken}
 use Rattle.feeds.specs.declared.reader.FeedFault.{FeedFault}
-use Rattle.feeds.specs.declared.reader.FeedFault.TheVariants.{BadRecord, UnknownPlace, Order, Outside, TooLong, ReadFault}
-use Rattle.feeds.specs.Records.{ReadRecords, Entry, whole, cut_off, refused_by, record_header, judged, read_on, read_from, read_text}
+use Rattle.feeds.specs.Records.{read_text}
 use Rattle.plant_streams.specs.Limits.{limits_at}
 use Rattle.feeds.specs.Held.{AreHeldIn, held_of}
-use Rattle.feeds.specs.Standing.{IsRecordFor, IsTakenFor, read_behind, unread, with_front}
-use Rattle.feeds.specs.Taking.{entries_at, behind, no_more, HasHeader, PassesHeader, AnswersNext, ReadsNext}
+use Rattle.feeds.specs.Standing.{IsRecordFor, IsTakenFor, unread}
+use Rattle.feeds.specs.Taking.{entries_at, behind, HasHeader, PassesHeader, AnswersNext, ReadsNext}
 
 -- behind the header
 pub unread-behind : (parts : FileParts) (text : ReadText) (taken : Taken) → 1 ≤ taken.count →
@@ -30,30 +29,6 @@ still-taken parts bytes old read is held ahead inside counted = record {
   ahead = subst (λ (o : Option Record). IfSome o (IsRecordFor parts)) (sym ahead) tt;
   last = subst (λ (o : Option Record). IfSome o (λ one. (1 ≤ read.count) × (one.tick ≡ read.last))) (sym ahead) tt;
 }
-
--- one record more
-module _ (parts : FileParts) (text : ReadText) (old : Taken) (line : List ℕ) (after : ℕ) (one : Record)
-    (entries : entries_at text old.at ≡ whole line ∷ entries_at text after) (is : judged parts (old.count + 1) old.last line ≡ Ok one) where
-  abbrev after-one : Taken
-  after-one = record { at = after; count = old.count + 1; last = one.tick; ahead = old.ahead; held = old.held }
-
-  record-next : behind parts text old ≡ with_front (one ∷ []) (unread parts text after-one)
-  record-next =
-      ap (read_from parts (old.count + 1) old.last) entries
-      ∙ ap (λ (answer : Result Record FeedFault). read_on answer (λ first. read_from parts (old.count + 1 + 1) first.tick
-      (entries_at text after))) is
-      ∙ ap (with_front (one ∷ [])) (sym (unread-behind parts text after-one (omega arith)))
-
-  pub reads-record : IsTakenFor parts text.bytes old → old.ahead ≡ None → old.at < after → after ≤ length text.bytes →
-      IsRecordFor parts one →
-      ReadsNext parts text (behind parts text old) old after-one (Ok (Some one))
-  reads-record taken ahead further inside fits = record {
-    answers = record { next = record-next; fits = fits; last = (omega arith, refl) };
-    taken = still-taken parts text.bytes old after-one taken refl ahead inside (let l = taken.counted in omega arith);
-    held = refl;
-    ahead = ahead;
-    further = λ other ok. further;
-  }
 
 -- behind the header that was read
 pub behind-header : (parts : FileParts) (text : ReadText) (old first read : Taken) (answer : Result (Option Record) FeedFault) →

@@ -1,5 +1,5 @@
 -- Records are taken one after another.
-use Rattle.std.proofs.Common.{◌≡◌, ◌≢◌, ◌∙◌, ℕ, ◌+◌, ◌<◌, ◌≤◌, false, List, [], ◌∷◌, ◌++◌, Option, Some, None, IfSome, Result, Ok, Err, refl, sym, ap, subst, arith, append_assoc}
+use Rattle.std.proofs.Common.{◌≡◌, ◌≢◌, ◌∙◌, ℕ, ◌+◌, ◌<◌, ◌≤◌, false, List, [], ◌∷◌, ◌++◌, Option, Some, None, IfSome, refl, sym, ap, subst, arith, append_assoc}
 use Rattle.std.specs.List.{AllByRecursion}
 use Rattle.quant.specs.Interval.{Interval}
 use Rattle.flow_edge.specs.ReadText.{ReadText}
@@ -8,11 +8,10 @@ use Rattle.plant.specs.Sound.{IsPlant}
 use Rattle.feeds.specs.declared.record.Record.{Record}
 use Rattle.feeds.specs.declared.taken.Taken.{Taken}
 use Rattle.feeds.specs.declared.reader.FeedFault.{FeedFault}
-use Rattle.feeds.specs.declared.reader.FeedFault.TheVariants.{ReadFault}
-use Rattle.feeds.specs.Records.{ReadRecords, refused_by}
+use Rattle.feeds.specs.Records.{ReadRecords}
 use Rattle.feeds.specs.Held.{held_with, held_after}
 use Rattle.feeds.specs.Standing.{IsTakenFor, as_list, unread, pending, with_front}
-use Rattle.feeds.specs.Taking.{entries_at, no_more, Takes, HasCome, MeetsRefusal, HoldsAhead}
+use Rattle.feeds.specs.Taking.{entries_at, Takes, HasCome, MeetsRefusal, HoldsAhead}
 use Rattle.feeds.proofs.Steps.{unread-behind}
 use Rattle.feeds.proofs.Turns.{AreInTurn, from-turn, all-later}
 
@@ -109,25 +108,13 @@ module _ (parts : FileParts) (text : ReadText) where
       one.tick ≡ taken.last → end ≤ one.tick → HasCome parts text end taken
   come-ahead plant end taken one e some last later = record {
     later = subst (λ (ahead : Option Record). AllByRecursion (λ r. end ≤ r.tick) (as_list ahead ++ (unread parts text taken).records))
-        (sym e) (later, all-later parts end taken.last (unread parts text taken).records (omega arith)
-        (subst (λ (read : ReadRecords). AreInTurn parts taken.last read.records) (sym (unread-behind parts text taken some))
-        (from-turn parts (taken.count + 1) taken.last (entries_at text taken.at) plant)));
+        (sym e) (
+          later,
+          all-later parts end taken.last (unread parts text taken).records (omega arith)
+              (subst (λ (read : ReadRecords). AreInTurn parts taken.last read.records) (sym (unread-behind parts text taken some))
+              (from-turn parts (taken.count + 1) taken.last (entries_at text taken.at) plant)),
+        );
     ends = λ none. absurd (let clash : Some one ≡ None = sym e ∙ none in cc);
-  }
-
-  pub come-none : (end : ℕ) (taken : Taken) → pending parts text taken ≡ no_more → HasCome parts text end taken
-  come-none end taken e = record {
-    later = subst (λ (read : ReadRecords). AllByRecursion (λ r. end ≤ r.tick) read.records) (sym e) tt;
-    ends = λ none. e;
-  }
-
-  -- the next record is refused
-  pub refused-next : (end : ℕ) (taken : Taken) (fault : FeedFault) → taken.ahead ≡ None →
-      unread parts text taken ≡ refused_by fault → fault ≢ ReadFault → MeetsRefusal parts text end taken fault
-  refused-next end taken fault none e other = record {
-    refusal = ap (λ (read : ReadRecords). read.refusal) (none-ahead taken none ∙ e);
-    before = subst (λ (read : ReadRecords). AllByRecursion (λ one. one.tick < end) read.records) (sym (none-ahead taken none ∙ e)) tt;
-    other = other;
   }
 
   -- the record ahead is later, and nothing is taken

@@ -1,30 +1,25 @@
 -- What a window answers, by the records of the text that is stood in.
-use Rattle.std.proofs.Common.{◌≡◌, ◌≢◌, ◌∙◌, ℕ, ◌+◌, ◌<◌, ◌≤◌, Bool, true, false, cond, leb, ltb, ◌&&◌, ◌||◌, List, [], ◌∷◌, ◌++◌, length, map, take, drop, Option, Some, None, IfSome, IsTrue, Result, Ok, Err, refl, sym, ap, subst, arith, inl, inr, append_assoc, le-leb, le-ltb, lt-ltb, ltb-false}
-use Rattle.std.specs.Prelude.{nat_lt, nat_le}
-use Rattle.std.specs.List.{AllByRecursion, list_all}
+use Rattle.std.proofs.Common.{◌≡◌, ◌≢◌, ◌∙◌, ℕ, ◌+◌, ◌<◌, ◌≤◌, Bool, true, false, cond, leb, ltb, ◌&&◌, ◌||◌, List, [], ◌∷◌, ◌++◌, length, map, take, drop, Option, Some, None, Result, Ok, Err, refl, sym, ap, subst, arith, inl, inr, append_assoc, le-leb, le-ltb, lt-ltb, ltb-false}
+use Rattle.std.specs.List.{AllByRecursion}
 use Rattle.std.proofs.lemmas.Bool.{cases_eq, lt-leb}
-use Rattle.std.proofs.lemmas.Bool.Decides.{nat_tests, same_from_decides}
 use Rattle.std.proofs.lemmas.List.{drop_all}
-use Rattle.std.proofs.lemmas.List.FromFn.{fill_by_all, length-map-range_with_len, get_or-map-range_with_len}
+use Rattle.std.proofs.lemmas.List.FromFn.{fill_by_all, length-map-range_with_len}
 use Rattle.quant.specs.Interval.{Interval}
-use Rattle.flow_edge.specs.ReadText.{ReadText, ReadsUp}
+use Rattle.flow_edge.specs.ReadText.{ReadText}
 use Rattle.relaxation.specs.Tube.{Tube, tube_of}
 use Rattle.parts.specs.Parts.{FileParts}
 use Rattle.parts.specs.Given.{given_bands}
 use Rattle.plant.specs.Sound.{IsPlant}
 use Rattle.feeds.specs.declared.record.Record.{Record}
 use Rattle.feeds.specs.declared.taken.Taken.{Taken}
-use Rattle.feeds.specs.declared.records.Records.{Records}
 use Rattle.feeds.specs.declared.reader.FeedFault.{FeedFault}
-use Rattle.feeds.specs.declared.reader.FeedFault.TheVariants.{BadRecord, TooLong}
-use Rattle.feeds.specs.Records.{ReadRecords, Entry, whole, cut_off, entries_of, record_entries, refused_by, judged, read_on, read_from, read_text, records_in, record_header, is_too_long, most_bytes}
+use Rattle.feeds.specs.declared.reader.FeedFault.TheVariants.{BadRecord}
+use Rattle.feeds.specs.Records.{ReadRecords, whole, cut_off, entries_of, record_entries, refused_by, judged, read_on, read_from, read_text, records_in, is_too_long, most_bytes}
 use Rattle.feeds.specs.Given.{recorded, given_by, are_before, refusal_by, fed_tubes, tubes_by}
 use Rattle.feeds.specs.Held.{nothing_held, held_after}
-use Rattle.feeds.specs.Standing.{IsRecordFor, IsTakenFor, as_list, unread, with_front, pending, HasTaken, first_part, StandsAt, nothing_taken}
-use Rattle.feeds.specs.Taking.{Takes, HasCome, no_more}
+use Rattle.feeds.specs.Standing.{IsRecordFor, as_list, unread, with_front, pending, HasTaken}
 use Rattle.feeds.specs.Filling.{filled_bands}
-use Rattle.feeds.specs.Reader.{AreFeedTubes}
-use Rattle.feeds.specs.Window.{FillsWindow, IsRefused, AnswersWindow, AnswersText}
+use Rattle.feeds.specs.Window.{FillsWindow, IsRefused}
 use Rattle.feeds.proofs.Turns.{text-turn, all-fit}
 use Rattle.feeds.proofs.Takings.{before-both, before-later, after-both}
 use Rattle.feeds.proofs.Recorded.{filled-recorded}

@@ -1,13 +1,13 @@
 -- The records of a text follow each other: each is one of the plant's, and not before the one before it.
-use Rattle.std.proofs.Common.{◌≡◌, ◌∙◌, ℕ, ◌+◌, ◌<◌, ◌≤◌, Bool, true, false, cond, List, [], ◌∷◌, ◌++◌, length, Option, Some, None, Result, Ok, Err, bytes_eq, refl, sym, ap, subst, arith}
+use Rattle.std.proofs.Common.{◌≡◌, ℕ, ◌+◌, ◌≤◌, Bool, true, false, cond, List, [], ◌∷◌, Result, Ok, Err, bytes_eq, refl, arith}
 use Rattle.std.specs.List.{AllByRecursion}
 use Rattle.parts.specs.Parts.{FileParts}
 use Rattle.plant.specs.Sound.{IsPlant}
 use Rattle.feeds.specs.declared.record.Record.{Record}
 use Rattle.feeds.specs.declared.reader.FeedFault.{FeedFault}
-use Rattle.feeds.specs.declared.reader.FeedFault.TheVariants.{BadRecord, TooLong}
-use Rattle.feeds.specs.Records.{ReadRecords, Entry, whole, cut_off, refused_by, judged, read_on, read_from, read_text, records_in, record_entries, record_header}
-use Rattle.feeds.specs.Standing.{IsRecordFor, read_behind}
+use Rattle.feeds.specs.declared.reader.FeedFault.TheVariants.{BadRecord}
+use Rattle.feeds.specs.Records.{ReadRecords, Entry, whole, cut_off, refused_by, judged, read_on, read_from, read_text, record_header}
+use Rattle.feeds.specs.Standing.{IsRecordFor}
 use Rattle.feeds.proofs.Accepted.{IsNext, judged-fits}
 
 abbrev pub AreInTurn : FileParts → ℕ → List Record → Type 0

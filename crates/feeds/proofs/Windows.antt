@@ -12,7 +12,7 @@ use Rattle.flowsheet.proofs.Readings.{Same, same-kept}
 use Rattle.flowsheet.proofs.Runs.{AreGiven, streams-related, states-related, states-bands}
 use Rattle.flowsheet.proofs.Limits.{states-limited}
 use Rattle.flowsheet.proofs.Joins.{joined_states, joined_streams}
-use Rattle.relaxation.specs.Tube.{Tube, at, tube_of}
+use Rattle.relaxation.specs.Tube.{at, tube_of}
 use Rattle.relaxation.specs.Window.{run_tube}
 use Rattle.relaxation.proofs.Ticks.{at-tube_of, length-tube_of}
 use Rattle.parts.specs.Parts.{FileParts}

@@ -4,7 +4,6 @@ use Rattle.quant.specs.Interval.{Interval, IsBand, IsInside}
 use Rattle.parts.specs.declared.feeds.FeedKind.{FeedKind}
 use Rattle.parts.specs.declared.feeds.FeedKind.TheVariants as feed_kind
 use Rattle.parts.specs.Parts.{FileParts}
-use Rattle.plant_streams.specs.Limits.{limits_at}
 use Rattle.feeds.specs.declared.record.Record.{Record}
 
 -- none of a feed's channels has one

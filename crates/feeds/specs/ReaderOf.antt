@@ -1,5 +1,5 @@
 -- What a reader of a plant's feeds keeps.
-use Rattle.std.specs.Prelude.{ℕ, List, Option, Some, None}
+use Rattle.std.specs.Prelude.{ℕ, List, Option, None}
 use Rattle.feeds.specs.declared.records.Records.{Records}
 use Rattle.feeds.specs.declared.reader.FeedFault.{FeedFault}
 

@@ -1,5 +1,5 @@
 -- Feed records: a text whose lines give bands to the channels of a plant's feeds, each from a tick on.
-use Rattle.std.specs.Prelude.{ℕ, ◌+◌, ◌-◌, ◌&&◌, nat_le, nat_lt, nat_abs, ℤ, int_le, Bool, false, List, [], ◌∷◌, ◌++◌, length, map, take, codes, bytes_eq, slice_index_or, Option, Some, None, Result, Ok, Err, if◌then◌else◌}
+use Rattle.std.specs.Prelude.{ℕ, ◌+◌, ◌&&◌, nat_le, nat_lt, nat_abs, ℤ, int_le, Bool, false, List, [], ◌∷◌, ◌++◌, length, map, take, codes, bytes_eq, slice_index_or, Option, Some, None, Result, Ok, Err, if◌then◌else◌}
 use Rattle.std.specs.List.{position, before_first, after_first}
 use Rattle.quant.specs.Interval.{Interval}
 use Rattle.plant_names.specs.Name.{is_dot}

@@ -1,6 +1,6 @@
 -- Words of the proofs: a reader of the contracts needs none of them.
 -- How records are taken from a text, one after another.
-use Rattle.std.specs.Prelude.{◌≡◌, ℕ, ◌+◌, ◌-◌, ◌<◌, ◌≤◌, ◌≢◌, Bool, true, false, List, [], ◌∷◌, length, drop, Option, Some, None, IfSome, IsOk, Result, Ok, Err}
+use Rattle.std.specs.Prelude.{◌≡◌, ℕ, ◌+◌, ◌<◌, ◌≤◌, ◌≢◌, Bool, true, false, List, [], ◌∷◌, length, drop, Option, Some, None, IfSome, IsOk, Result, Ok, Err}
 use Rattle.std.specs.List.{AllByRecursion}
 use Rattle.quant.specs.Interval.{Interval}
 use Rattle.flow_edge.specs.ReadText.{ReadText}
@@ -11,7 +11,7 @@ use Rattle.feeds.specs.declared.next_line.NextLine.TheVariants as next
 use Rattle.feeds.specs.declared.taken.Taken.{Taken}
 use Rattle.feeds.specs.declared.reader.FeedFault.{FeedFault}
 use Rattle.feeds.specs.declared.reader.FeedFault.TheVariants.{ReadFault}
-use Rattle.feeds.specs.Records.{ReadRecords, Entry, whole, cut_off, entries_of, refused_by, read_from, read_text}
+use Rattle.feeds.specs.Records.{ReadRecords, Entry, whole, cut_off, entries_of, refused_by, read_from}
 use Rattle.feeds.specs.Held.{held_of, held_after}
 use Rattle.feeds.specs.Standing.{IsRecordFor, IsTakenFor, as_list, unread, pending, with_front}
 
@@ -47,6 +47,11 @@ abbrev pub PassesHeader : FileParts → ReadText → Taken → Taken → Result 
 PassesHeader parts text old read (Ok done) = HasHeader parts text old read
 PassesHeader parts text old read (Err fault) =
     (unread parts text old ≡ refused_by fault) × (fault ≢ ReadFault) × (read ≡ old)
+
+-- what was taken with one record more, behind which the text goes on at this place
+abbrev pub taken_after : Taken → ℕ → Record → Taken
+taken_after old after one =
+    record { at = after; count = old.count + 1; last = one.tick; ahead = old.ahead; held = old.held }
 
 -- the record that was read, after which the others are still to be read
 pub record ReadsRecord (parts : FileParts) (text : ReadText) (coming : ReadRecords) (read : Taken) (one : Record) : Type 0 where

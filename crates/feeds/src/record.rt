@@ -12,14 +12,14 @@ use quant::Band;
 
 /// A channel of a feed, by their numbers from 0.
 #[derive(Clone, Copy)]
-pub struct FeedChannel {
+pub(crate) struct FeedChannel {
     pub feed: u32,
     pub channel: u32,
 }
 
 /// From a tick on, the channel of a feed has this band.
 #[derive(Clone, Copy)]
-pub struct Record {
+pub(crate) struct Record {
     pub tick: u32,
     pub place: FeedChannel,
     pub band: Band,
@@ -33,12 +33,7 @@ fn lies_in(band: Band, limit: Band) -> bool
 }
 
 /// The record that a line is, or why it is refused: record `at`, after one of tick `before`.
-pub(crate) fn judged(
-    plant: &Plant,
-    at: u32,
-    before: u32,
-    line: &[u8],
-) -> Result<Record, FeedFault>
+pub(crate) fn judged(plant: &Plant, at: u32, before: u32, line: &[u8]) -> Result<Record, FeedFault>
     ensures judged { result ≡ judged plant.now at before line.now }
     ensures fits { IfOk result (IsRecordFor plant.now) }
 {
@@ -48,11 +43,12 @@ pub(crate) fn judged(
     let Some(place) = place_in(plant, written.name) else {
         return Err(FeedFault::UnknownPlace { at });
     };
+    let _ = plant.parts();
+    let inside = lies_in(written.band, plant.limit(place.feed, place.channel));
     if written.tick < before {
         return Err(FeedFault::Order { at });
     }
-    let _ = plant.parts();
-    if !lies_in(written.band, plant.limit(place.feed, place.channel)) {
+    if !inside {
         return Err(FeedFault::Outside { at });
     }
     Ok(Record {

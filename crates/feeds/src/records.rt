@@ -21,9 +21,9 @@ const MOST_BYTES: u64 = 16_777_216;
 
 /// A text of records, once it is read, and how much of it was taken.
 #[derive(Drop)]
-pub struct Records {
-    pub(crate) text: Option<ReadUp>,
-    pub(crate) taken: Taken,
+pub(crate) struct Records {
+    text: Option<ReadUp>,
+    taken: Taken,
 }
 
 /// The text that was read, or what is left of a source.
@@ -55,7 +55,7 @@ fn text_of<E: Source>(
 
 impl Records {
     /// The records of a text that is read at the first window.
-    pub(crate) fn unread(alloc: Global, plant: &Plant) -> Result<Self, AllocError>
+    pub fn unread(alloc: Global, plant: &Plant) -> Result<Self, AllocError>
         ensures unread { IfOk result (λ kept. kept ≡ record { text = None; taken = nothing_taken plant.now }) }
         ensures records { IfOk result (AreRecordsFor plant.now) }
     {
@@ -67,7 +67,7 @@ impl Records {
     }
 
     /// The tubes of a window of `ticks` ticks from tick `first` on.
-    pub(crate) fn window<E: Source>(
+    pub fn window<E: Source>(
         &mut self,
         alloc: Global,
         plant: &Plant,

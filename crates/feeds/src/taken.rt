@@ -1,10 +1,10 @@
 //! How much of a text of records was taken.
 
-ghost use Rattle.std.specs.Prelude.{◌≡◌, ◌+◌, ◌≤◌, bytes_eq, length, None, IfOk, IfSome};
+ghost use Rattle.std.specs.Prelude.{◌≡◌, ◌+◌, ◌<◌, ◌≤◌, ◌^◌, bytes_eq, length, None, IfOk, OnErr, IfSome};
 ghost use Rattle.parts.specs.Parts.{FileParts};
-ghost use Rattle.feeds.specs.Records.{most_bytes, record_header};
-ghost use Rattle.feeds.specs.Standing.{IsTakenFor, nothing_taken, unread};
-ghost use Rattle.feeds.specs.Taking.{PassesHeader, HasPlaceFor, HoldsAhead, ReadsNext, TakesTo, behind};
+ghost use Rattle.feeds.specs.Records.{most_bytes, record_header, judged};
+ghost use Rattle.feeds.specs.Standing.{IsRecordFor, IsTakenFor, nothing_taken, unread};
+ghost use Rattle.feeds.specs.Taking.{taken_after, PassesHeader, HasPlaceFor, HoldsAhead, ReadsNext, TakesTo, behind};
 
 use crate::held::Held;
 use crate::next_line::{NextLine, next_line};
@@ -80,6 +80,22 @@ impl Taken {
         }
     }
 
+    /// Reads a record's line, behind which the text goes on at `after`.
+    fn read_line(&mut self, plant: &Plant, line: &[u8], after: usize) -> Result<Record, FeedFault>
+        requires { self.old.count + 1 < 2 ^ 32 }
+        ensures judged { result ≡ judged plant.now (self.old.count + 1) self.old.last line.now }
+        ensures fits { IfOk result (IsRecordFor plant.now) }
+        ensures ok { IfOk result (λ one. self.new ≡ taken_after self.old after one) }
+        ensures err { OnErr result (self.new ≡ self.old) }
+    {
+        let at = self.count + 1;
+        let record = judged(plant, at, self.last, line)?;
+        self.at = after;
+        self.count = at;
+        self.last = record.tick;
+        Ok(record)
+    }
+
     /// The next record behind the header, or `None` where there is none.
     fn read_behind(&mut self, plant: &Plant, text: &ReadUp) -> Result<Option<Record>, FeedFault>
         requires few { length text.now.bytes ≤ most_bytes }
@@ -88,17 +104,17 @@ impl Taken {
         requires ahead { self.old.ahead ≡ None }
         ensures { ReadsNext plant.now text.now (behind plant.now text.now self.old) self.old self.new result }
     {
-        let at = self.count + 1;
-        let (line, after) = match next_line(text, self.at) {
-            Some(NextLine::Whole { line, after }) => (line, after),
-            Some(NextLine::CutOff) => return Err(FeedFault::TooLong { at }),
-            None => return Ok(None),
-        };
-        let record = judged(plant, at, self.last, line)?;
-        self.at = after;
-        self.count = at;
-        self.last = record.tick;
-        Ok(Some(record))
+        match next_line(text, self.at) {
+            Some(NextLine::Whole { line, after }) => {
+                let record = self.read_line(plant, line, after)?;
+                Ok(Some(record))
+            }
+            Some(NextLine::CutOff) => Err(FeedFault::TooLong { at: self.count + 1 }),
+            None => {
+                self.at = text.bytes.len();
+                Ok(None)
+            }
+        }
     }
 
     /// The next record, or `None` where there is none.
@@ -117,14 +133,14 @@ impl Taken {
         requires { IfSome self.old.ahead (HasPlaceFor self.old.held) }
         ensures { HoldsAhead (tick + 1) self.old self.new result }
     {
-        let Some(record) = self.ahead.take() else {
+        let Some(ahead) = self.ahead.take() else {
             return true;
         };
-        if record.tick > tick {
-            self.ahead = Some(record);
+        if ahead.tick > tick {
+            self.ahead = Some(ahead);
             return false;
         }
-        self.held.hold(&record);
+        self.held.hold(&ahead);
         true
     }
 

@@ -57,8 +57,20 @@ type Case = (u32, u32, [u32; 2], Has, Result<Stepped, AdoptFault>);
 /// Versions in their turn: another number than the next; a version that is not there; another tube than the meet, first in the level's
 /// only channel; and at last one that narrows nothing.
 const CASES: [Case; 6] = [
-    (2, 1, [0, 0], Has::Renewal, Ok(Stepped::Narrowed { number: 1 })),
-    (2, 5, [0, 0], Has::Renewal, Err(AdoptFault::NotNext { have: 2 })),
+    (
+        2,
+        1,
+        [0, 0],
+        Has::Renewal,
+        Ok(Stepped::Narrowed { number: 1 }),
+    ),
+    (
+        2,
+        5,
+        [0, 0],
+        Has::Renewal,
+        Err(AdoptFault::NotNext { have: 2 }),
+    ),
     (
         2,
         2,
@@ -88,7 +100,13 @@ const CASES: [Case; 6] = [
             },
         }),
     ),
-    (3, 1, [0, 0], Has::Renewal, Ok(Stepped::Narrowed { number: 1 })),
+    (
+        3,
+        1,
+        [0, 0],
+        Has::Renewal,
+        Ok(Stepped::Narrowed { number: 1 }),
+    ),
     (2, 2, [0, 0], Has::Renewal, Ok(Stepped::Same)),
 ];
 
@@ -104,7 +122,10 @@ fn try_adoptions<R: Abort>(rt: &R, alloc: Global, plant: &Plant) -> Result<(), F
             refs: Refs::of(&refs),
             tube: tube_of(alloc, &plan, stream, has)?,
         };
-        assert!(rt; adopted(alloc, &mut board, &made) == Some(answer), "{stream}, {number}");
+        assert!(rt;
+            adopted(alloc, &mut board, &made) == Some(answer),
+            "{stream}, {number}"
+        );
     }
     assert_eq!(rt; board.rows().len(), 2);
     Ok(())

@@ -1,6 +1,6 @@
 //! Sessions over the worked tank: windows that are relaxed from what was made elsewhere, and windows that are stepped.
 
-ghost use Rattle.std.specs.Prelude.{◌≡◌, map, IfOk};
+ghost use Rattle.std.specs.Prelude.{◌≡◌};
 ghost use Rattle.relax_core.specs.Adopting.{made_row};
 
 use crate::renewals::{LEVEL, WORKED_TANK, has_rows};
@@ -24,36 +24,31 @@ struct LevelFirst {
     rows: Vec<StepRow>,
 }
 
-/// The last version of stream 3 on a settled board of a plan; nothing where there is no such stream.
-fn level_of(alloc: Global, plan: &WindowPlan<'_>) -> Result<Vec<Made>, AllocError> {
-    let mut made = Vec::new(alloc);
-    if plan.plant().streams().len() == 4 {
-        let mut board = Board::open(alloc, plan)?;
-        board.settle(alloc)?;
-        made.push(Made {
-            stream: 3,
-            number: 1,
-            stamp: 1,
-            refs: Refs::of(&[0, 0]),
-            tube: board.last(3).copied(alloc)?,
-        })?;
+/// The last version of stream 3 on a settled board of a plan, where there is such a stream.
+fn level_of(alloc: Global, plan: &WindowPlan<'_>) -> Result<Option<Made>, AllocError> {
+    if plan.plant().streams().len() != 4 {
+        return Ok(None);
     }
-    Ok(made)
+    let mut board = Board::open(alloc, plan)?;
+    board.settle(alloc)?;
+    Ok(Some(Made {
+        stream: 3,
+        number: 1,
+        stamp: 1,
+        refs: Refs::of(&[0, 0]),
+        tube: board.last(3).copied(alloc)?,
+    }))
 }
 
-/// The rows of versions.
-fn rows_of(alloc: Global, made: &[Made]) -> Result<Vec<StepRow>, AllocError>
-    ensures { IfOk result (λ rows. rows.items ≡ map made_row made.now) }
+/// The row of a version.
+fn row_of(version: &Made) -> StepRow
+    ensures { result ≡ made_row version.now }
 {
-    let mut rows = Vec::new(alloc);
-    for version in made {
-        rows.push(StepRow {
-            stream: version.stream,
-            version: version.number,
-            refs: Refs::of(version.refs.as_slice()),
-        })?;
+    StepRow {
+        stream: version.stream,
+        version: version.number,
+        refs: Refs::of(version.refs.as_slice()),
     }
-    Ok(rows)
 }
 
 impl Chaos for LevelFirst {
@@ -69,8 +64,13 @@ impl Chaos for LevelFirst {
     ) -> Result<Vec<Made>, AllocError> {
         self.asked = self.asked.saturating_add(1);
         self.rows = Vec::new(alloc);
-        let made = level_of(alloc, plan)?;
-        self.rows = rows_of(alloc, made.as_slice())?;
+        let mut made = Vec::new(alloc);
+        if let Some(version) = level_of(alloc, plan)? {
+            let mut rows = Vec::new(alloc);
+            rows.push(row_of(&version))?;
+            made.push(version)?;
+            self.rows = rows;
+        }
         Ok(made)
     }
 

@@ -1,5 +1,5 @@
 -- One tick more gets what records say.
-use Rattle.std.proofs.Common.{◌≡◌, ◌∙◌, ◌+◌, ◌<◌, ℕ, length, sym, subst, ap, arith}
+use Rattle.std.proofs.Common.{◌≡◌, ◌+◌, subst, arith}
 use Rattle.std.proofs.lemmas.Result.{err_from_is_err_and}
 use Rattle.feeds.specs.Standing.{pending}
 use Rattle.feeds.specs.Taking.{Takes, HasCome}

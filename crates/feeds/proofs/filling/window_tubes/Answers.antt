@@ -1,7 +1,6 @@
 -- The tubes are filled, and the run ends where it has to.
-use Rattle.std.proofs.Common.{◌≡◌, ◌∙◌, ◌+◌, List, length, take, drop, ap, sym, subst, arith}
+use Rattle.std.proofs.Common.{◌≡◌, ◌∙◌, length, drop, sym, subst, arith}
 use Rattle.std.proofs.lemmas.List.{take_at}
-use Rattle.relaxation.specs.Tube.{Tube}
 use Rattle.feeds.specs.Window.{FillsWindow}
 use Rattle.feeds.proofs.Ends.{fills-window}
 use Rattle.feeds.proofs.filling.window_tubes.Goals as goal

@@ -1,5 +1,5 @@
 -- One channel more is covered.
-use Rattle.std.proofs.Common.{ap, ◌∙◌, ◌≡◌, sym, arith}
+use Rattle.std.proofs.Common.{◌∙◌}
 use Rattle.feeds.proofs.Covers.{channel-there, cover-more, cover-same}
 use Rattle.feeds.proofs.held.cover.Goals as goal
 use Rattle.feeds.proofs.held.cover.Goals.{in-Some, in_default}
@@ -12,7 +12,7 @@ set-requires-clause-channel c =
 
 pub loop-channel-preserved : goal.loop-channel-preserved
 loop-channel-preserved c = elim c.match-one.branch [
-  in-Some w ↦ cover-more c.args.held.now c.args.tick c.loop-channel.channel c.args.tube.now c.loop-channel.tube
+  | in-Some w ↦ cover-more c.args.held.now c.args.tick c.loop-channel.channel c.args.tube.now c.loop-channel.tube
       c.index-held-channel.result c.requires.tick c.requires.channels c.loop-channel-test.true c.index-held-channel.is
       c.loop-channel.invariant w.in-Some.band c.match-one.tube w.in-Some.is (w.tube-is ∙ w.set.ensures)
   | in_default w ↦ cover-same c.args.held.now c.args.tick c.loop-channel.channel c.args.tube.now c.loop-channel.tube

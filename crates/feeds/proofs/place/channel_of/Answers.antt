@@ -1,6 +1,5 @@
 -- The stream's channels are those of the feed.
-use Rattle.std.proofs.Common.{◌≡◌, ◌∙◌, ◌<◌, ◌^◌, ℕ, List, length, get_or, position, bytes_eq, ap, sym, subst, arith}
-use Rattle.plant_streams.specs.Streams.{streams_of}
+use Rattle.std.proofs.Common.{◌∙◌, ◌<◌, ℕ, List, length, get_or, position, bytes_eq, ap, sym, arith}
 use Rattle.tables.specs.Output.{channels}
 use Rattle.feeds.specs.Records.{channel_found}
 use Rattle.feeds.proofs.Accepted.{below, in-streams, channels-counted, small-channel}

@@ -21,4 +21,4 @@ returns-clause-fits c =
     record-fits c.args.plant.now c.args.line.now (record { tick = w.tick; name = w.name.now; band = w.band })
     c.in-Some-place_in.place c.parts.ensures.plant c.in-Some.ensures (sym c.in-Some-place_in.ensures)
     (ap (λ (limit : Interval). int_le limit.lo w.band.lo && int_le w.band.hi limit.hi) (sym c.limit.ensures)
-    ∙ sym c.lies_in.ensures ∙ c.if-not-lies_in.false)
+    ∙ sym c.lies_in-inside.ensures ∙ c.if-not-inside.false)

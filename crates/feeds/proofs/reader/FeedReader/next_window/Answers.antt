@@ -1,5 +1,5 @@
 -- The reader keeps the end of the window and its fault.
-use Rattle.std.proofs.Common.{◌≡◌, ◌∙◌, ◌+◌, ◌≤◌, None, Some, Ok, Err, Option, refl, sym, ap, subst, arith}
+use Rattle.std.proofs.Common.{◌≡◌, ◌∙◌, ◌+◌, ◌≤◌, None, Some, Ok, Err, Option, sym, ap, subst, arith}
 use Rattle.feeds.specs.declared.reader.FeedFault.{FeedFault}
 use Rattle.feeds.specs.ReaderOf.{ReaderOf, feeding}
 use Rattle.feeds.specs.Reader.{Gives}

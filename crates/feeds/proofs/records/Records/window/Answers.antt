@@ -1,5 +1,5 @@
 -- The text is read at the first window, and the window is filled by its records.
-use Rattle.std.proofs.Common.{◌≡◌, None, sym, ◌∙◌}
+use Rattle.std.proofs.Common.{◌∙◌}
 use Rattle.feeds.proofs.Answering.{taken-up, gives-in}
 use Rattle.feeds.proofs.records.Records.window.Goals as goal
 

@@ -1,18 +1,16 @@
--- One record more is read.
-use Rattle.std.proofs.Common.{sym, arith}
+-- Each record takes a byte, so there are few enough to count.
+use Rattle.std.proofs.Common.{arith}
 use Rattle.feeds.specs.Records.{most_bytes}
-use Rattle.feeds.proofs.Steps.{reads-record}
 use Rattle.feeds.proofs.taken.Taken.read_behind.Goals as goal
 
-pub overflow_add-at : goal.overflow_add-at
+pub read_line-requires : goal.read_line-requires
 unfolding most_bytes
-overflow_add-at c =
+read_line-requires c =
     let taken = c.requires.taken in
     omega (arith, c.requires.few, taken.inside, taken.counted)
 
-pub returns : goal.returns
-returns c =
-    let found = rw c.in-Some-Whole.field-0-is at c.in-Some-Whole.ensures in
-    reads-record c.args.plant.now c.args.text.now c.args.self.now c.in-Some-Whole.line.now c.in-Some-Whole.after
-    c.in_ok-record.record found.0 (sym c.in_ok-record.ensures.judged) c.requires.taken c.requires.ahead found.1 found.2
-    c.in_ok-record.ensures.fits
+pub overflow_add-result : goal.overflow_add-result
+unfolding most_bytes
+overflow_add-result c =
+    let taken = c.requires.taken in
+    omega (arith, c.requires.few, taken.inside, taken.counted)

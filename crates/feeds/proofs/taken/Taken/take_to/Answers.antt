@@ -1,9 +1,9 @@
 -- Records are taken as long as they are not later.
-use Rattle.std.proofs.Common.{◌≡◌, ◌∙◌, ◌+◌, None, sym, subst, refl, arith}
+use Rattle.std.proofs.Common.{◌≡◌, ◌+◌, None, sym, subst, refl, arith}
 use Rattle.feeds.specs.declared.taken.Taken.{Taken}
 use Rattle.feeds.specs.Standing.{IsTakenFor}
 use Rattle.feeds.specs.Taking.{Takes}
-use Rattle.feeds.proofs.Holds.{ahead-placed, has-place, with-ahead, with-held, holds-ahead}
+use Rattle.feeds.proofs.Holds.{ahead-placed, has-place, with-held, holds-ahead}
 use Rattle.feeds.proofs.Takings.{takes-then, takes-ahead, takes-one, takes-met, come-ahead, stops-ahead}
 use Rattle.feeds.proofs.taken.Taken.take_to.Goals as goal
 
@@ -38,10 +38,11 @@ returns-then-record-tick-clause-takes c =
     let end = c.args.tick + 1 in
     let reads = rw c.in-Some.is at c.in_ok-record.ensures in
     let met = takes-met parts text end c.loop-record.self c.read_next.new.self c.in-Some.record c.loop-record.invariant.ahead
-    reads.answers.next reads.ahead reads.held in
-    (takes-then parts text end end c.args.self.now c.loop-record.self _ (omega arith) c.loop-record.invariant.takes met,
-    come-ahead parts text c.parts.ensures.plant end _ c.in-Some.record refl reads.answers.last.0 reads.answers.last.1
-    (omega arith))
+    reads.answers.next reads.ahead reads.held in (
+      takes-then parts text end end c.args.self.now c.loop-record.self _ (omega arith) c.loop-record.invariant.takes met,
+      come-ahead parts text c.parts.ensures.plant end _ c.in-Some.record refl reads.answers.last.0 reads.answers.last.1
+          (omega arith),
+    )
 
 pub hold-requires-clause-channel : goal.hold-requires-clause-channel
 hold-requires-clause-channel c =
