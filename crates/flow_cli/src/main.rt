@@ -2,12 +2,14 @@
 #![tactic(auto)]
 
 mod file_sink;
+mod file_source;
 mod stream_sink;
 mod stream_source;
 mod words;
 
 use file_sink::FileSink;
-use flow_edge::{NoSource, NullSink, OpenGate, Sink, Status, Word};
+use file_source::FileSource;
+use flow_edge::{NoSource, NullSink, OpenGate, Sink, Source, Status, Word};
 use flow_top::{files, flow_top, memory_line};
 use std::alloc::Global;
 use std::process::ExitCode;
@@ -34,22 +36,43 @@ fn main(rt: HostRuntime) -> ExitCode {
         err: ErrSink::new(rt.stderr()),
     };
     let status = match words(&rt, alloc) {
-        Ok(words) => with_trace(&rt, alloc, &words, &mut streams),
+        Ok(words) => with_files(&rt, alloc, &words, &mut streams),
         Err(_) => say_memory(&mut streams.err),
     };
     ExitCode::from(status.code())
 }
 
-/// Does what the words ask for, with the file that they name for the trace, where they name one.
-fn with_trace<R: Threads + Sync + Files>(
+/// Does what the words ask for, with the files that they name for feed records and for the trace, where they name them.
+fn with_files<R: Threads + Sync + Files>(
     rt: &R,
     alloc: Global,
     words: &[Word],
     streams: &mut Streams,
 ) -> Status {
+    match named(words, files(words).extra) {
+        Some(name) => with_trace(rt, alloc, words, &mut FileSource::new(rt, name), streams),
+        None => with_trace(rt, alloc, words, &mut NoSource, streams),
+    }
+}
+
+/// Does what the words ask for with this source of feed records.
+fn with_trace<R: Threads + Sync + Files, E: Source>(
+    rt: &R,
+    alloc: Global,
+    words: &[Word],
+    extra: &mut E,
+    streams: &mut Streams,
+) -> Status {
     match named(words, files(words).trace) {
-        Some(name) => with_streams(rt, alloc, words, &mut FileSink::new(rt, name), streams),
-        None => with_streams(rt, alloc, words, &mut NullSink, streams),
+        Some(name) => with_streams(
+            rt,
+            alloc,
+            words,
+            extra,
+            &mut FileSink::new(rt, name),
+            streams,
+        ),
+        None => with_streams(rt, alloc, words, extra, &mut NullSink, streams),
     }
 }
 
@@ -61,10 +84,11 @@ fn named(words: &[Word], at: Option<u32>) -> Option<&str> {
 }
 
 /// Does what the words ask for, over the standard streams.
-fn with_streams<R: Threads + Sync, T: Sink>(
+fn with_streams<R: Threads + Sync, E: Source, T: Sink>(
     rt: &R,
     alloc: Global,
     words: &[Word],
+    extra: &mut E,
     trace: &mut T,
     streams: &mut Streams,
 ) -> Status {
@@ -73,7 +97,7 @@ fn with_streams<R: Threads + Sync, T: Sink>(
         alloc,
         words,
         &mut streams.plant,
-        &mut NoSource,
+        extra,
         &mut streams.out,
         trace,
         &mut streams.err,

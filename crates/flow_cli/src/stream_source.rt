@@ -44,7 +44,7 @@ impl<R: Read> Source for StreamSource<R> {
 }
 
 /// Reads once, and again where a signal came in between.
-fn read_some<R: Read>(stream: &mut R, into: &mut [u8]) -> io::Result<usize>
+pub fn read_some<R: Read>(stream: &mut R, into: &mut [u8]) -> io::Result<usize>
     ensures { ReadsAtMost result into.new }
 {
     for _ in 0..MOST_RETRIES {

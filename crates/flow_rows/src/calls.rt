@@ -217,21 +217,24 @@ fn last_window_has_what_is_left(rt: HostRuntime) -> Result<(), Fail> {
     Ok(())
 }
 
-/// Words, and the position of the file of the trace among them.
-const NAMED: [(&[&str], Option<u32>); 5] = [
-    (&["run", "--journal", "trace.csv"], Some(3)),
-    (&["run", "--journal", "--journal"], Some(3)),
-    (&["run"], None),
-    (&["run", "--journal", "trace.csv", "x"], None),
-    (&["check"], None),
+/// Words, and the positions among them of the files of the records and of the trace.
+const NAMED: [(&[&str], Option<u32>, Option<u32>); 8] = [
+    (&["run", "--journal", "trace.csv"], None, Some(3)),
+    (&["run", "--journal", "--journal"], None, Some(3)),
+    (&["run", "--feeds", "f", "--journal", "t"], Some(3), Some(5)),
+    (&["run", "--journal", "t", "--feeds", "f"], Some(5), Some(3)),
+    (&["direct", "--feeds", "f"], Some(3), None),
+    (&["direct", "--journal", "t"], None, None),
+    (&["run", "--journal", "trace.csv", "x"], None, None),
+    (&["check"], None, None),
 ];
 
 #[test]
-fn finds_the_file_of_the_trace(rt: HostRuntime) -> Result<(), Fail> {
-    for (words, place) in &NAMED {
+fn finds_the_files_of_records_and_trace(rt: HostRuntime) -> Result<(), Fail> {
+    for (words, records, trace) in &NAMED {
         let found = files(&spoken(rt.alloc(), words)?);
-        assert_eq!(rt; found.trace, *place);
-        assert_eq!(rt; found.extra, None);
+        assert_eq!(rt; found.extra, *records);
+        assert_eq!(rt; found.trace, *trace);
     }
     Ok(())
 }

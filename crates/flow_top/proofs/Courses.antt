@@ -246,12 +246,6 @@ course-stops Run parts records course stop r e = stops-by Run parts records cour
 course-stops Direct parts records course stop r e = stops-by Direct parts records course.windows course.stop stop r.stop e
 course-stops Check parts records course stop r e = absurd (cc (r.stop, e))
 
--- without records none is refused
-pub stops-by-width : (command : Command) (parts : FileParts) (w : ℕ) (stop : Stop) → StopsBy command parts None w stop →
-    StopsByWidth command parts None w stop
-stops-by-width command parts w stop (inl by) = absurd (cc by.taken)
-stops-by-width command parts w stop (inr by) = by
-
 -- the windows are looked through one after another, of which there are no more than ticks
 abbrev pub AreFound : Type 0
 AreFound = (parts : FileParts) (bands : ℕ → ℕ → List Interval) (first n : ℕ) →

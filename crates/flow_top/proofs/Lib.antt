@@ -6,6 +6,8 @@ pub mod Courses
 pub mod Options
 pub mod Pairs
 pub mod Work
+pub mod Blame
+pub mod Requests
 pub mod Written
 pub mod Causes
 pub mod PlantRows

@@ -64,7 +64,7 @@ pub record IsNext (first second : SinkUse) : Type 0 where
   pub text : second.had ≡ first.has
   pub count : second.before ≡ first.now
 
-rose-next : (first second : SinkUse) → first.before ≤ first.now → IsNext first second → Rose second.before second.now →
+pub rose-next : (first second : SinkUse) → first.before ≤ first.now → IsNext first second → Rose second.before second.now →
     Rose first.before second.now
 rose-next first second counted next r =
     rose-later first.before first.now second.now counted (subst (λ before. Rose before second.now) next.count r)

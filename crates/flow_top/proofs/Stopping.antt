@@ -1,6 +1,7 @@
 -- The band that stops a run is the first of the whole run that is wider than was asked.
 use Rattle.std.proofs.Common.{◌≡◌, inl, inr, ℕ, zero, suc, ◌+◌, ◌-◌, ◌*◌, ◌<◌, ◌≤◌, min, List, Option, Some, None, subst, arith}
 use Rattle.parts.specs.Parts.{FileParts}
+use Rattle.feeds.specs.Given.{refusal_by}
 use Rattle.window_accept.specs.declared.wide.TooWide.{TooWide}
 use Rattle.window_accept.specs.Wide.{IsTooWide, IsSooner, AreNarrowEnough, IsFirstWide}
 use Rattle.flow_top.specs.declared.words.Command.{Command}
@@ -8,7 +9,7 @@ use Rattle.flow_top.specs.declared.words.Command.TheVariants.{Run, Direct, Check
 use Rattle.flow_top.specs.declared.fault.Stop.{Stop}
 use Rattle.flow_top.specs.Course.{Course}
 use Rattle.flow_top.specs.Courses.{IsCourse, WritesRun}
-use Rattle.flow_top.specs.WindowsCourse.{bands_by, first_tick, ticks_in, IsWindowCount, IsAccepted}
+use Rattle.flow_top.specs.WindowsCourse.{bands_by, first_tick, ticks_in, end_of, IsWindowCount, IsAccepted}
 use Rattle.flow_top.proofs.Courses.{compare_le}
 use Rattle.flow_top.proofs.RunRows.{one-more, counted}
 
@@ -111,3 +112,9 @@ pub run-first : (command : Command) (parts : FileParts) (records : Option (List 
 run-first Run parts records course stop is e place first = first-of-run parts records course.windows is.accepted place first
 run-first Direct parts records course stop is e place first = first-of-run parts records course.windows is.accepted place first
 run-first Check parts records course stop is e place first = absurd (cc (is.stop, e))
+
+pub run-taken : (command : Command) (parts : FileParts) (records : Option (List ℕ)) (course : Course) → WritesRun command →
+    IsCourse command parts records course → (w : ℕ) → w < course.windows → refusal_by parts records (end_of parts w) ≡ None
+run-taken Run parts records course writes is w h = (is.accepted w h).taken
+run-taken Direct parts records course writes is w h = (is.accepted w h).taken
+run-taken Check parts records course writes is w h = absurd writes

@@ -27,9 +27,10 @@ use Rattle.flow_top.specs.declared.fault.End.TheVariants.{Stopped, NoMemory}
 use Rattle.flow_top.specs.declared.words.Command.{Command}
 use Rattle.flow_top.specs.declared.words.Command.TheVariants.{Run, Direct, Check}
 use Rattle.flow_top.specs.declared.windows.Texts.{Texts}
+use Rattle.flow_top.specs.Words.{writes_trace}
 use Rattle.flow_top.specs.Faults.{fault_of_feeds, stop_by}
 use Rattle.flow_top.specs.WindowsCourse.{bands_by, first_tick, ticks_in, end_of, window_rows, wide_fault, refused, wide}
-use Rattle.flow_top.specs.Steps.{AreSteps, AreTexts, steps_text, AreTextsOf, HasMoved, IsReadWith, WritesBy, traces, TextsEnded, end_by_feeds}
+use Rattle.flow_top.specs.Steps.{AreSteps, AreTexts, steps_text, AreTextsOf, HasMoved, IsReadWith, WritesBy, TextsEnded, end_by_feeds}
 use Rattle.flow_top.proofs.PlantRows.{label_of, rows-same}
 use Rattle.flow_top.proofs.Refusals.{record-refused}
 
@@ -121,7 +122,7 @@ read-with relaxes parts None old new reader read window whole along next last = 
 read-with relaxes parts (Some text) old new reader read window whole along next last = whole text along next last
 
 -- what a command writes goes with how its windows are made
-pub same-kind : (command : Command) (relaxes : Bool) → WritesBy command relaxes → relaxes ≡ traces command
+pub same-kind : (command : Command) (relaxes : Bool) → WritesBy command relaxes → relaxes ≡ writes_trace command
 same-kind Run relaxes w = w
 same-kind Direct relaxes w = w
 same-kind Check relaxes w = absurd w

@@ -4,12 +4,13 @@ use Rattle.std.proofs.Common.{Result, Ok, Err, IsErrAnd, arith}
 use Rattle.flow_edge.specs.Sink.{Gives, GivesFront}
 use Rattle.parts.specs.Parts.{FileParts}
 use Rattle.flow_top.specs.declared.words.Command.{Command}
+use Rattle.flow_top.specs.declared.words.Request.{Request}
 use Rattle.flow_top.specs.declared.fault.End.{End}
 use Rattle.flow_top.specs.declared.fault.End.TheVariants.{Stopped, NoMemory}
 use Rattle.report.specs.declared.fault.TopFault.TheVariants.{WriteOut}
 use Rattle.flow_top.specs.Course.{Course, text_of}
 use Rattle.flow_top.specs.Courses.{IsWork}
-use Rattle.flow_top.specs.Uses.{SourceUse, SinkUse, Sinks, IsUnwritten, AreUnwritten}
+use Rattle.flow_top.specs.Uses.{SourceUse, SinkUse, Sinks, IsUntouched, IsUnwritten, AreUnwritten}
 use Rattle.flow_top.specs.Ended.{TraceStood, TraceFront, output, WorkEnded, through, broken, within, course_end, CommandEnded, refused, failed, starved}
 use Rattle.flow_top.specs.Steps.{PieceEnded, PlantEnded, refusal, failure}
 use Rattle.flow_top.proofs.Writes.{front-longer, front-after, both-given, rose-later}
@@ -19,7 +20,7 @@ pub this-end : (r : Result (Unit {0}) End) (end : End) → IsErrAnd r (λ e. e �
 this-end (Ok done) end h = absurd h
 this-end (Err e) end h = ap Err h
 
-module _ (command : Command) (parts : FileParts) (course : Course) (header rows : List ℕ) (trace : SinkUse)
+module _ (command : Command) (parts : FileParts) (course : Course) (header rows : List ℕ) (extra : SourceUse) (trace : SinkUse)
     (work : IsWork command parts None course) (untraced : course.trace ≡ None) (unwritten : IsUnwritten trace) where
   stood_none : (k : ℕ) → TraceStood course.trace k trace
   stood_none k = subst (λ t. TraceStood t k trace) (sym untraced) unwritten
@@ -30,7 +31,7 @@ module _ (command : Command) (parts : FileParts) (course : Course) (header rows 
   -- the first piece of a course's text failed
   broke : (end : End) (out : SinkUse) → text_of course ≡ header ++ rows → header ++ rows ≢ [] →
       PieceEnded command WriteOut (Err end) out header →
-      WorkEnded command parts (record { out = out; trace = trace }) (Err end)
+      WorkEnded command parts None extra (record { out = out; trace = trace }) (Err end)
   broke (Stopped stop) out text some e =
       let all = subst (λ t. GivesFront out.had out.has t) (sym text) (front-longer out.had out.has header rows e.0.front) in
       broken course WriteOut work (λ none. some (sym text ∙ none)) (output (record { front = all; fault = e.0.fault }) front_none)
@@ -39,14 +40,14 @@ module _ (command : Command) (parts : FileParts) (course : Course) (header rows 
 
   pub first-broke : (result : Result (Unit {0}) End) (end : End) (out : SinkUse) → result ≡ Err end →
       text_of course ≡ header ++ rows → header ++ rows ≢ [] → PieceEnded command WriteOut (Err end) out header →
-      WorkEnded command parts (record { out = out; trace = trace }) result
+      WorkEnded command parts None extra (record { out = out; trace = trace }) result
   first-broke result end out same text some e =
-      subst (λ r. WorkEnded command parts (record { out = out; trace = trace }) r) (sym same) (broke end out text some e)
+      subst (λ r. WorkEnded command parts None extra (record { out = out; trace = trace }) r) (sym same) (broke end out text some e)
 
   -- memory ran out after the header
   pub header-stands : (result : Result (Unit {0}) End) (out : SinkUse) → result ≡ Err NoMemory →
       course.header ≡ header → header ≢ [] → 0 < course.windows →
-      Gives out.had out.has header → WorkEnded command parts (record { out = out; trace = trace }) result
+      Gives out.had out.has header → WorkEnded command parts None extra (record { out = out; trace = trace }) result
   header-stands result out e same some more g =
       within course 0 work (record {
         few = omega arith;
@@ -60,7 +61,7 @@ module _ (command : Command) (parts : FileParts) (course : Course) (header rows 
       text_of course ≡ header ++ rows → header ++ rows ≢ [] → course.stop ≡ None →
       Gives had mid header → before ≤ between →
       PieceEnded command WriteOut result (record { had = mid; has = has; before = between; now = now }) rows →
-      WorkEnded command parts
+      WorkEnded command parts None extra
       (record { out = record { had = had; has = has; before = before; now = now }; trace = trace }) result
   second-ended had mid has before between now (Ok done) text some whole first counted e =
       let all = subst (λ t. Gives had has t) (sym text) (both-given had mid has header rows first e) in
@@ -69,7 +70,7 @@ module _ (command : Command) (parts : FileParts) (course : Course) (header rows 
         output = all;
         trace = stood_none course.windows;
         silent = λ none. absurd (some (sym text ∙ none));
-      }) (ap course_end (sym whole))
+      }) (λ none. tt) (ap course_end (sym whole))
   second-ended had mid has before between now (Err (Stopped stop)) text some whole first counted e =
       let all = subst (λ t. GivesFront had has t) (sym text) (front-after had mid has header rows first e.0.front) in
       broken course WriteOut work (λ none. some (sym text ∙ none))
@@ -78,8 +79,10 @@ module _ (command : Command) (parts : FileParts) (course : Course) (header rows 
   second-ended had mid has before between now (Err NoMemory) text some whole first counted e = absurd e
 
 -- a command that ends without a plant
-pub plantless-ended : (command : Command) (end : End) (plant : SourceUse) (sinks : Sinks) → AreUnwritten sinks →
-    PlantEnded command (Err end) plant → CommandEnded command plant sinks (Err end)
-plantless-ended command (Stopped stop) plant sinks still (refusal fault r e) = refused fault r still (ap (λ s. Err (Stopped s)) e)
-plantless-ended command (Stopped stop) plant sinks still (failure rose e) = failed rose still (ap (λ s. Err (Stopped s)) e)
-plantless-ended command NoMemory plant sinks still h = starved still refl
+pub plantless-ended : (request : Request) (end : End) (plant extra : SourceUse) (sinks : Sinks) → IsUntouched extra → AreUnwritten sinks →
+    PlantEnded request.command (Err end) plant → CommandEnded request plant extra sinks (Err end)
+plantless-ended request (Stopped stop) plant extra sinks unread still (refusal fault r e) =
+    refused fault r unread still (ap (λ s. Err (Stopped s)) e)
+plantless-ended request (Stopped stop) plant extra sinks unread still (failure rose e) =
+    failed rose unread still (ap (λ s. Err (Stopped s)) e)
+plantless-ended request NoMemory plant extra sinks unread still h = starved unread still refl

@@ -1,7 +1,6 @@
 -- How writing the windows of a run ends, from what their texts gave.
 use Rattle.std.proofs.Common.{◌≡◌, ◌⊎◌, inl, inr, refl, sym, ap, ◌∙◌, subst, ℕ, suc, ◌+◌, ◌<◌, ◌≤◌, min, Bool, true, false}
 use Rattle.std.proofs.Common.{List, [], Option, Some, None, IfSome, Result, Ok, Err, IsErrAnd, arith}
-use Rattle.flow_edge.specs.Faults.{Rose}
 use Rattle.parts.specs.Parts.{FileParts}
 use Rattle.plant.specs.Sound.{IsPlant}
 use Rattle.tables.specs.Output.{header}
@@ -19,9 +18,8 @@ use Rattle.flow_top.specs.Course.{Traced, Course}
 use Rattle.flow_top.specs.Courses.{IsCourse, IsWork}
 use Rattle.flow_top.specs.WindowsCourse.{traced_in, first_tick, IsWindowCount, IsAccepted, StopsAfter, all, refused, wide, WritesWindows}
 use Rattle.flow_top.specs.Uses.{SourceUse, Sinks}
-use Rattle.flow_top.specs.Ended.{course_end, Stood, BrokeOff}
-use Rattle.flow_top.specs.Ended as ended
-use Rattle.flow_top.specs.Steps.{PairEnded, AreCounted, header_of_steps, WritesBy, AreSteps, AreTexts, IsOpened, IsBefore, HasMoved, IsReadWith, HasTexts, IsUnread, TextsEnded, WindowsEnded, through, unread, broken, within}
+use Rattle.flow_top.specs.Ended.{WorkEnded, through, unread, broken, within, course_end, Stood, BrokeOff}
+use Rattle.flow_top.specs.Steps.{PairEnded, AreCounted, header_of_steps, WritesBy, AreSteps, AreTexts, IsOpened, IsBefore, HasMoved, IsReadWith, HasTexts, IsUnread, TextsEnded}
 use Rattle.flow_top.specs.declared.windows.Texts.{Texts}
 use Rattle.flow_top.proofs.Courses.{AreFound, AreOne, windows-exist, began, stops-there, same-stop, compare_le, written-full, run-header}
 use Rattle.flow_top.proofs.RunRows.{counted}
@@ -127,7 +125,7 @@ module _ (command : Command) (relaxes : Bool) (parts : FileParts) (records : Opt
 
   breaks : (extra : SourceUse) (sinks : Sinks) (stop : Stop) →
       (fault : TopFault) × BrokeOff course sinks fault × (stop ≡ stop_by command fault) →
-      WindowsEnded command parts records extra sinks (Err (Stopped stop))
+      WorkEnded command parts records extra sinks (Err (Stopped stop))
   breaks extra sinks stop broke = broken course broke.0 work (written-full course is.header course.windows) broke.1
       (ap (λ s. Err (Stopped s)) broke.2)
 
@@ -145,21 +143,21 @@ module _ (command : Command) (relaxes : Bool) (parts : FileParts) (records : Opt
 
   headers_end : (extra : SourceUse) (sinks : Sinks) (end : End) →
       PairEnded command sinks header (header_for (trace_for relaxes parts records)) (Err end) →
-      WindowsEnded command parts records extra sinks (Err end)
+      WorkEnded command parts records extra sinks (Err end)
   headers_end extra sinks (Stopped stop) e =
       breaks extra sinks stop (opened-broke command course sinks stop (as_headers sinks (Err (Stopped stop)) e))
   headers_end extra sinks NoMemory e = absurd (pair-memory command sinks _ _ (Err NoMemory) e refl)
 
   pub headers-broke : (extra : SourceUse) (sinks : Sinks) (result : Result (Unit {0}) End) (end : End) → IsErrAnd result (λ e. e ≡ end) →
       PairEnded command sinks header (header_for (trace_for relaxes parts records)) (Err end) →
-      WindowsEnded command parts records extra sinks result
+      WorkEnded command parts records extra sinks result
   headers-broke extra sinks result end h e =
-      subst (WindowsEnded command parts records extra sinks) (sym (this-end result end h)) (headers_end extra sinks end e)
+      subst (WorkEnded command parts records extra sinks) (sym (this-end result end h)) (headers_end extra sinks end e)
 
   -- the texts of the next window could not be made
   texts_end : (w mid : ℕ) (extra : SourceUse) (sinks : Sinks) (end : End) → extra.before ≤ mid → Stood course w sinks →
       first_tick parts w < parts.ticks → StopsOrStarved command parts records w mid extra.now end →
-      WindowsEnded command parts records extra sinks (Err end)
+      WorkEnded command parts records extra sinks (Err end)
   texts_end w mid extra sinks (Stopped stop) more stood left (inl e) =
       let at : course.windows ≡ w = reach w course.windows stood.few (λ more.
       no-stop command parts records w (Some stop) stop e refl (is.accepted w more)) in
@@ -168,18 +166,19 @@ module _ (command : Command) (relaxes : Bool) (parts : FileParts) (records : Opt
       through course work (subst (λ n. Stood course n sinks) (sym at) stood) (λ none. absurd (cc (none, same)))
       (ap course_end (sym same))
   texts_end w mid extra sinks (Stopped stop) more stood left (inr failed) =
-      unread course w work stood (rose-later extra.before mid extra.now more failed.rose) (ap (λ s. Err (Stopped s)) failed.stop_is)
+      unread course w work stood (one-of-all w stood.few left) (rose-later extra.before mid extra.now more failed.rose)
+      (ap (λ s. Err (Stopped s)) failed.stop_is)
   texts_end w mid extra sinks NoMemory more stood left e = within course w work stood (one-of-all w stood.few left) refl
 
   pub texts-ended : (w mid : ℕ) (extra : SourceUse) (sinks : Sinks) (result : Result (Unit {0}) End) (end : End) →
       IsErrAnd result (λ e. e ≡ end) → extra.before ≤ mid → Stood course w sinks → first_tick parts w < parts.ticks →
-      StopsOrStarved command parts records w mid extra.now end → WindowsEnded command parts records extra sinks result
+      StopsOrStarved command parts records w mid extra.now end → WorkEnded command parts records extra sinks result
   texts-ended w mid extra sinks result end h more stood left e =
-      subst (WindowsEnded command parts records extra sinks) (sym (this-end result end h)) (texts_end w mid extra sinks end more stood left e)
+      subst (WorkEnded command parts records extra sinks) (sym (this-end result end h)) (texts_end w mid extra sinks end more stood left e)
 
   -- all windows stand
   pub all-stand : (count : ℕ) (extra : SourceUse) (sinks : Sinks) → IsWindowCount parts count → Stood course count sinks →
-      IfSome records (λ _. extra.left ≡ Some []) → WindowsEnded command parts records extra sinks (Ok tt)
+      IfSome records (λ _. extra.left ≡ Some []) → WorkEnded command parts records extra sinks (Ok tt)
   all-stand count extra sinks least stood read =
       let at : course.windows ≡ count = reach count course.windows stood.few (λ more.
       let left = began command parts records course.windows course.stop is.stop count (omega (arith, more)) in
@@ -207,7 +206,7 @@ module _ (command : Command) (relaxes : Bool) (parts : FileParts) (records : Opt
         (written-full course is.header (suc w)) (of_course (Ok tt) e)
 
     window_end : (extra : SourceUse) (end : End) → PairEnded command second texts.rows texts.steps (Err end) →
-        WindowsEnded command parts records extra (both_sinks first second) (Err end)
+        WorkEnded command parts records extra (both_sinks first second) (Err end)
     window_end extra (Stopped stop) e =
         breaks extra (both_sinks first second) stop
         (went-broke command course w more texts.steps steps_of first second stood counted_first out_next trace_next stop
@@ -216,9 +215,9 @@ module _ (command : Command) (relaxes : Bool) (parts : FileParts) (records : Opt
 
     pub window-broke : (extra : SourceUse) (result : Result (Unit {0}) End) (end : End) → IsErrAnd result (λ e. e ≡ end) →
         PairEnded command second texts.rows texts.steps (Err end) →
-        WindowsEnded command parts records extra (both_sinks first second) result
+        WorkEnded command parts records extra (both_sinks first second) result
     window-broke extra result end h e =
-        subst (WindowsEnded command parts records extra (both_sinks first second)) (sym (this-end result end h)) (window_end extra end e)
+        subst (WorkEnded command parts records extra (both_sinks first second)) (sym (this-end result end h)) (window_end extra end e)
 
 -- the first windows of the run by these records were written
 pub record HasWritten (command : Command) (relaxes : Bool) (parts : FileParts) (records : Option (List ℕ)) (w : ℕ) (session : SessionOf)
@@ -281,7 +280,7 @@ module _ (command : Command) (relaxes : Bool) (parts : FileParts) (plant : IsPla
   -- the headers
   pub open-broke : (extra : SourceUse) (sinks : Sinks) (result : Result (Unit {0}) End) (end : End) → IsErrAnd result (λ e. e ≡ end) →
       PairEnded command sinks header (header_of_steps command) (Err end) → (records : Option (List ℕ)) →
-      WindowsEnded command parts records extra sinks result
+      WorkEnded command parts records extra sinks result
   open-broke extra sinks result end h e records =
       let course = windows-exist find command (trace_for relaxes parts records) parts records plant in
       headers-broke command relaxes parts records plant writes unique course.0 course.1 extra sinks result end h
@@ -321,7 +320,7 @@ module _ (command : Command) (relaxes : Bool) (parts : FileParts) (plant : IsPla
         extra.before ≡ opened_feeds.faults → extra.now ≡ read.faults → IsErrAnd result (λ e. e ≡ end) →
         ((records : Option (List ℕ)) → IsAlong records session feeds →
         TextsEnded command relaxes session.parts records w other feeds read (Err end)) →
-        (records : Option (List ℕ)) → Stands parts records opened_feeds → WindowsEnded command parts records extra first result
+        (records : Option (List ℕ)) → Stands parts records opened_feeds → WorkEnded command parts records extra first result
     texts-broke extra result end other read before now h e records stands =
         let by = so.by records stands in
         texts-ended command relaxes parts records plant writes unique by.course by.is w feeds.faults extra first result end h
@@ -339,7 +338,7 @@ module _ (command : Command) (relaxes : Bool) (parts : FileParts) (plant : IsPla
 
       pub pair-stopped : (extra : SourceUse) (result : Result (Unit {0}) End) (end : End) → IsErrAnd result (λ e. e ≡ end) →
           PairEnded command second texts.rows texts.steps (Err end) → (records : Option (List ℕ)) → Stands parts records opened_feeds →
-          WindowsEnded command parts records extra (both_sinks first second) result
+          WorkEnded command parts records extra (both_sinks first second) result
       pair-stopped extra result end h e records stands =
           let by = so.by records stands in
           let so_made = here records stands in
@@ -377,7 +376,7 @@ module _ (command : Command) (relaxes : Bool) (parts : FileParts) (plant : IsPla
 
   pub all-written : (count w : ℕ) (session : SessionOf) (opened_feeds feeds : Feeding) (extra : SourceUse) (sinks : Sinks) → w ≡ count →
       extra.left ≡ feeds.left → IsWriting command relaxes parts count w session opened_feeds feeds sinks →
-      (records : Option (List ℕ)) → Stands parts records opened_feeds → WindowsEnded command parts records extra sinks (Ok tt)
+      (records : Option (List ℕ)) → Stands parts records opened_feeds → WorkEnded command parts records extra sinks (Ok tt)
   all-written count w session opened_feeds feeds extra sinks e same_left so records stands =
       let by = so.by records stands in
       all-stand command relaxes parts records plant writes unique by.course by.is count extra sinks so.least
@@ -387,18 +386,3 @@ module _ (command : Command) (relaxes : Bool) (parts : FileParts) (plant : IsPla
 
 pub opened-so : (parts : FileParts) (session : SessionOf) → session ≡ opening_session parts → session ≡ opening_session session.parts
 opened-so parts session e = e ∙ sym (ap (λ (s : SessionOf). opening_session s.parts) e)
-
--- without records, and with no source of any that can fail, the work on a plant ends as its windows do
-pub no-rise : (count : ℕ) → count ≡ 0 → Rose count count → ⊥
-no-rise count e r = omega (arith, e, r)
-
-pub as-work : (command : Command) (parts : FileParts) (extra : SourceUse) (sinks : Sinks) (result : Result (Unit {0}) End) →
-    (Rose extra.before extra.now → ⊥) → WindowsEnded command parts None extra sinks result → ended.WorkEnded command parts sinks result
-as-work command parts extra sinks result none (through course is stood read e) = ended.through course is stood e
-as-work command parts extra sinks result none (unread course k is stood rose e) = absurd (none rose)
-as-work command parts extra sinks result none (broken course fault is some broke e) = ended.broken course fault is some broke e
-as-work command parts extra sinks result none (within course k is stood less e) = ended.within course k is stood less e
-
-pub of-parts : (command : Command) (one other : FileParts) (sinks : Sinks) (result : Result (Unit {0}) End) → one ≡ other →
-    ended.WorkEnded command one sinks result → ended.WorkEnded command other sinks result
-of-parts command one other sinks result e w = subst (λ parts. ended.WorkEnded command parts sinks result) e w

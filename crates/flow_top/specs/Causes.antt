@@ -7,44 +7,51 @@ use Rattle.parts.specs.Parts.{FileParts}
 use Rattle.flow_top.specs.declared.words.Command.{Command}
 use Rattle.flow_top.specs.declared.fault.Stop.{Stop}
 use Rattle.report.specs.declared.fault.TopFault.{TopFault}
-use Rattle.report.specs.declared.fault.TopFault.TheVariants.{Words, ReadPlant}
-use Rattle.flow_top.specs.Words.{command_in}
+use Rattle.report.specs.declared.fault.TopFault.TheVariants.{Words, ReadPlant, ReadExtra, WriteOut, WriteTrace}
+use Rattle.flow_top.specs.declared.words.Request.{Request}
+use Rattle.flow_top.specs.Words.{request_in}
 use Rattle.flow_top.specs.Faults.{status_of, stop_by}
 use Rattle.flow_top.specs.Judged.{IsJudged}
 use Rattle.flow_top.specs.Course.{Course, written, text_of}
 use Rattle.flow_top.specs.Courses.{IsWork}
 use Rattle.report.specs.Lines.{fault_line, memory_line}
 use Rattle.flow_top.specs.Uses.{SourceUse, SinkUse, Sinks, IsUntouched, IsUnwritten, AreUnwritten, WasGiven, Broke}
-use Rattle.flow_top.specs.Ended.{TraceStood, BrokeOff}
+use Rattle.flow_top.specs.Ended.{TraceStood, BrokeOff, AreTold, records_for, IsReadUp}
 
--- How a command ends on a text where no device fails and memory is there: by a refusal of the text; or as its course on the plant
--- that the text says, at its stop where it has one.
-pub data IsEndOn (command : Command) (text : List ℕ) (end : Option Stop) : Type 0 where
-  refusal : (fault : TopFault) → IsJudged text (Err fault) → end ≡ Some (stop_by command fault) → IsEndOn command text end
-  course : (parts : FileParts) (course : Course) → IsJudged text (Ok parts) → IsWork command parts None course →
-      end ≡ course.stop → IsEndOn command text end
+-- How a command ends on a text, and with a text of records where one is given, where no device fails and memory is there: by a refusal
+-- of the text; or as its course on the plant that the text says, at its stop where it has one.
+pub data IsEndOn (command : Command) (text : List ℕ) (records : Option (List ℕ)) (end : Option Stop) : Type 0 where
+  refusal : (fault : TopFault) → IsJudged text (Err fault) → end ≡ Some (stop_by command fault) → IsEndOn command text records end
+  course : (parts : FileParts) (course : Course) → IsJudged text (Ok parts) → IsWork command parts records course →
+      end ≡ course.stop → IsEndOn command text records end
 
--- the words are a command; the plant source was read to its end, and its text says a plant; and this is the command's course on it
-pub record IsAtWork (words : List (List ℕ)) (plant : SourceUse) : Type 0 where
-  pub command : Command
+-- where the words ask for records, their source tells its text
+abbrev pub TellsRecords : List (List ℕ) → SourceUse → Type 0
+TellsRecords words extra = (request : Request) → request_in words ≡ Ok request → AreTold request extra
+
+-- The words are a request; the plant source was read to its end, and its text says a plant; and this is the command's course on it, with
+-- the records that the words ask for.
+pub record IsAtWork (words : List (List ℕ)) (plant extra : SourceUse) : Type 0 where
+  pub request : Request
   pub parts : FileParts
   pub course : Course
-  pub asked : command_in words ≡ Ok command
+  pub asked : request_in words ≡ Ok request
   pub says : IfSome plant.text (λ bytes. IsJudged bytes (Ok parts))
   pub read : IfSome plant.text (λ _. plant.left ≡ Some [])
-  pub work : IsWork command parts None course
+  pub work : IsWork request.command parts (records_for request extra) course
 
--- the whole text of a course that nothing stops was given, and a legal trace of it
-pub record WroteAll (words : List (List ℕ)) (plant : SourceUse) (sinks : Sinks) : Type 0 where
-  pub at : IsAtWork words plant
+-- the whole text of a course that nothing stops was given, and a legal trace of it, and the records were read to their end
+pub record WroteAll (words : List (List ℕ)) (plant extra : SourceUse) (sinks : Sinks) : Type 0 where
+  pub at : IsAtWork words plant extra
+  pub records : IsReadUp (records_for at.request extra) extra
   pub whole : at.course.stop ≡ None
   pub output : WasGiven sinks.out (text_of at.course)
   pub trace : TraceStood at.course.trace at.course.windows sinks.trace
 
 -- of a course the header and the rows of the first windows were given, with a legal trace of the same windows, and not all of them
 -- where nothing stops it
-pub record WroteSome (words : List (List ℕ)) (plant : SourceUse) (sinks : Sinks) : Type 0 where
-  pub at : IsAtWork words plant
+pub record WroteSome (words : List (List ℕ)) (plant extra : SourceUse) (sinks : Sinks) : Type 0 where
+  pub at : IsAtWork words plant extra
   pub windows : ℕ
   pub few : windows ≤ at.course.windows
   pub fewer : at.course.stop ≡ None → windows < at.course.windows
@@ -52,37 +59,39 @@ pub record WroteSome (words : List (List ℕ)) (plant : SourceUse) (sinks : Sink
   pub trace : TraceStood at.course.trace windows sinks.trace
 
 -- a sink failed, with this fault, after first parts of a course's text and of a legal trace of it
-pub record WroteFront (fault : TopFault) (words : List (List ℕ)) (plant : SourceUse) (sinks : Sinks) : Type 0 where
-  pub at : IsAtWork words plant
+pub record WroteFront (fault : TopFault) (words : List (List ℕ)) (plant extra : SourceUse) (sinks : Sinks) : Type 0 where
+  pub at : IsAtWork words plant extra
   pub broke : BrokeOff at.course sinks fault
 
 -- the words are a command, and the text of the plant source is refused by this fault, which the command gives this status; its line
--- was given, and nothing in the output or the trace
-pub record SaysRefusal (own : Status) (words : List (List ℕ)) (plant : SourceUse) (sinks : Sinks) (err : SinkUse) : Type 0 where
-  pub command : Command
+-- was given, no record was read, and nothing is in the output or the trace
+pub record SaysRefusal (own : Status) (words : List (List ℕ)) (plant extra : SourceUse) (sinks : Sinks) (err : SinkUse) : Type 0 where
+  pub request : Request
   pub fault : TopFault
-  pub asked : command_in words ≡ Ok command
+  pub asked : request_in words ≡ Ok request
   pub refused : IfSome plant.text (λ bytes. IsJudged bytes (Err fault))
-  pub status : status_of command fault ≡ own
+  pub status : status_of request.command fault ≡ own
   pub line : WasGiven err (fault_line fault)
+  pub unread : IsUntouched extra
   pub silent : AreUnwritten sinks
 
 -- a course has a stop, by this fault with this status; the whole text before it was given, with a legal trace of it, and its line
-pub record SaysStop (own : Status) (words : List (List ℕ)) (plant : SourceUse) (sinks : Sinks) (err : SinkUse) : Type 0 where
-  pub at : IsAtWork words plant
+pub record SaysStop (own : Status) (words : List (List ℕ)) (plant extra : SourceUse) (sinks : Sinks) (err : SinkUse) : Type 0 where
+  pub at : IsAtWork words plant extra
   pub fault : TopFault
-  pub stop : at.course.stop ≡ Some (stop_by at.command fault)
-  pub status : status_of at.command fault ≡ own
+  pub stop : at.course.stop ≡ Some (stop_by at.request.command fault)
+  pub status : status_of at.request.command fault ≡ own
   pub output : WasGiven sinks.out (text_of at.course)
   pub trace : TraceStood at.course.trace at.course.windows sinks.trace
   pub line : WasGiven err (fault_line fault)
 
 -- the words are refused at this position, the line of it was given, and nothing else was read or written
-pub record SaysWords (words : List (List ℕ)) (plant : SourceUse) (sinks : Sinks) (err : SinkUse) : Type 0 where
+pub record SaysWords (words : List (List ℕ)) (plant extra : SourceUse) (sinks : Sinks) (err : SinkUse) : Type 0 where
   pub at : ℕ
-  pub refused : command_in words ≡ Err at
+  pub refused : request_in words ≡ Err at
   pub line : WasGiven err (fault_line (Words at))
   pub unread : IsUntouched plant
+  pub unread_records : IsUntouched extra
   pub silent : AreUnwritten sinks
 
 -- the plant source failed, its line was given, and nothing in the output or the trace
@@ -91,39 +100,54 @@ pub record SaysReadFault (plant : SourceUse) (sinks : Sinks) (err : SinkUse) : T
   pub line : WasGiven err (fault_line ReadPlant)
   pub silent : AreUnwritten sinks
 
+-- the source of records failed, its line was given, and both headers and the same windows in the output and the trace
+pub record SaysRecordsFault (words : List (List ℕ)) (plant extra : SourceUse) (sinks : Sinks) (err : SinkUse) : Type 0 where
+  pub fault : Rose extra.before extra.now
+  pub line : WasGiven err (fault_line ReadExtra)
+  pub output : TellsRecords words extra → WroteSome words plant extra sinks
+
+-- the output or the trace counted a fault, and this one names it
+abbrev pub IsWriteFault : TopFault → Sinks → Type 0
+IsWriteFault fault sinks = ((fault ≡ WriteOut) × Rose sinks.out.before sinks.out.now)
+    ⊎ ((fault ≡ WriteTrace) × Rose sinks.trace.before sinks.trace.now)
+
 -- the output or the trace failed, and its line was given
-pub record SaysWriteFault (words : List (List ℕ)) (plant : SourceUse) (sinks : Sinks) (err : SinkUse) : Type 0 where
+pub record SaysWriteFault (words : List (List ℕ)) (plant extra : SourceUse) (sinks : Sinks) (err : SinkUse) : Type 0 where
   pub fault : TopFault
-  pub front : WroteFront fault words plant sinks
+  pub failed : IsWriteFault fault sinks
+  pub front : TellsRecords words extra → WroteFront fault words plant extra sinks
   pub line : WasGiven err (fault_line fault)
 
 -- memory ran out, its line was given, and in the output and the trace nothing, or the same windows
-pub record SaysMemory (words : List (List ℕ)) (plant : SourceUse) (sinks : Sinks) (err : SinkUse) : Type 0 where
+pub record SaysMemory (words : List (List ℕ)) (plant extra : SourceUse) (sinks : Sinks) (err : SinkUse) : Type 0 where
   pub line : WasGiven err memory_line
-  pub output : AreUnwritten sinks ⊎ WroteSome words plant sinks
+  pub output : TellsRecords words extra → AreUnwritten sinks ⊎ WroteSome words plant extra sinks
 
--- the cause of each status that is said in a line, and of done work
-abbrev pub CauseSaid : Status → List (List ℕ) → SourceUse → Sinks → SinkUse → Type 0
-CauseSaid status.Done words plant sinks err = WroteAll words plant sinks × IsUnwritten err
-CauseSaid status.Words words plant sinks err = SaysWords words plant sinks err
-CauseSaid status.Refused words plant sinks err = SaysRefusal status.Refused words plant sinks err
-CauseSaid status.Wide words plant sinks err = SaysStop status.Wide words plant sinks err
-CauseSaid status.ReadFault words plant sinks err = SaysReadFault plant sinks err
-CauseSaid status.WriteFault words plant sinks err = SaysWriteFault words plant sinks err
-CauseSaid status.NoMemory words plant sinks err = SaysMemory words plant sinks err
-CauseSaid status.No words plant sinks err = SaysRefusal status.No words plant sinks err
+-- The cause of each status that is said in a line, and of done work. What stands of a course is told where the records are.
+abbrev pub CauseSaid : Status → List (List ℕ) → SourceUse → SourceUse → Sinks → SinkUse → Type 0
+CauseSaid status.Done words plant extra sinks err = (TellsRecords words extra → WroteAll words plant extra sinks) × IsUnwritten err
+CauseSaid status.Words words plant extra sinks err = SaysWords words plant extra sinks err
+CauseSaid status.Refused words plant extra sinks err = SaysRefusal status.Refused words plant extra sinks err
+    ⊎ (TellsRecords words extra → SaysStop status.Refused words plant extra sinks err)
+CauseSaid status.Wide words plant extra sinks err = TellsRecords words extra → SaysStop status.Wide words plant extra sinks err
+CauseSaid status.ReadFault words plant extra sinks err =
+    SaysReadFault plant sinks err ⊎ SaysRecordsFault words plant extra sinks err
+CauseSaid status.WriteFault words plant extra sinks err = SaysWriteFault words plant extra sinks err
+CauseSaid status.NoMemory words plant extra sinks err = SaysMemory words plant extra sinks err
+CauseSaid status.No words plant extra sinks err = SaysRefusal status.No words plant extra sinks err
 
 -- the errors failed in the midst of the line of another status, whose cause stands but for that line
-pub record SaysNothing (words : List (List ℕ)) (plant : SourceUse) (sinks : Sinks) (err : SinkUse) : Type 0 where
+pub record SaysNothing (words : List (List ℕ)) (plant extra : SourceUse) (sinks : Sinks) (err : SinkUse) : Type 0 where
   pub own : Status
   pub line : List ℕ
   pub broke : Broke err line
-  pub instead : (said : SinkUse) → WasGiven said line → CauseSaid own words plant sinks said
+  pub instead : (said : SinkUse) → WasGiven said line → CauseSaid own words plant extra sinks said
 
--- the cause of each status, from what the call did to the plant source, the output, the trace and the errors
-abbrev pub Cause : Status → List (List ℕ) → SourceUse → Sinks → SinkUse → Type 0
-Cause status.WriteFault words plant sinks err = SaysWriteFault words plant sinks err ⊎ SaysNothing words plant sinks err
-Cause status words plant sinks err = CauseSaid status words plant sinks err
+-- the cause of each status, from what the call did to the two sources, the output, the trace and the errors
+abbrev pub Cause : Status → List (List ℕ) → SourceUse → SourceUse → Sinks → SinkUse → Type 0
+Cause status.WriteFault words plant extra sinks err =
+    SaysWriteFault words plant extra sinks err ⊎ SaysNothing words plant extra sinks err
+Cause status words plant extra sinks err = CauseSaid status words plant extra sinks err
 
 -- its own status; or that of a write fault, where one of the error line was counted; or that of want of memory
 abbrev pub AnswersOr : Status → SinkUse → Status → Type 0
@@ -135,8 +159,8 @@ abbrev pub AnswersUnlessRead : Status → SourceUse → SinkUse → Status → T
 AnswersUnlessRead own plant err result =
     AnswersOr own err result ⊎ ((result ≡ status.ReadFault) × Rose plant.before plant.now)
 
--- the same, or that of a write fault, where one of the output or of the trace was counted
-abbrev pub AnswersUnlessFailed : Status → SourceUse → Sinks → SinkUse → Status → Type 0
-AnswersUnlessFailed own plant sinks err result =
-    AnswersUnlessRead own plant err result
+-- the same, or that of a read fault of the records, or of a write fault of the output or the trace, where one was counted
+abbrev pub AnswersUnlessFailed : Status → SourceUse → SourceUse → Sinks → SinkUse → Status → Type 0
+AnswersUnlessFailed own plant extra sinks err result =
+    AnswersUnlessRead own plant err result ⊎ ((result ≡ status.ReadFault) × Rose extra.before extra.now)
     ⊎ ((result ≡ status.WriteFault) × (Rose sinks.out.before sinks.out.now ⊎ Rose sinks.trace.before sinks.trace.now))

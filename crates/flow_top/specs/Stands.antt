@@ -5,7 +5,7 @@ use Rattle.flow_edge.specs.declared.status.Status.TheVariants as status
 use Rattle.flow_top.specs.declared.fault.Stop.{Stop}
 use Rattle.flow_top.specs.declared.fault.End.{End}
 use Rattle.flow_top.specs.declared.fault.End.TheVariants.{Stopped, NoMemory}
-use Rattle.flow_top.specs.Uses.{SinkUse, Uses, IsUntouched, IsUnwritten, WasGiven, Broke}
+use Rattle.flow_top.specs.Uses.{SinkUse, Uses, IsUnwritten, WasGiven, Broke}
 use Rattle.flow_top.specs.Ended.{Ended}
 use Rattle.report.specs.Lines.{fault_line, constant_line, memory_line}
 
@@ -28,10 +28,8 @@ Said (Ok done) err result = IsUnwritten err × (result ≡ status.Done)
 Said (Err NoMemory) err result = SaidMemory err result
 Said (Err (Stopped stop)) err result = SaidStop stop err result
 
--- How the work ended, what then stands in the plant source, the output and the trace, and what was said of it. The source of
--- records is untouched.
+-- How the work ended, what then stands in the sources, the output and the trace, and what was said of it.
 pub record Stands (words : List (List ℕ)) (uses : Uses) (result : Status) : Type 0 where
   pub ending : Result (Unit {0}) End
-  pub ended : Ended words uses.plant uses.sinks ending
+  pub ended : Ended words uses.plant uses.extra uses.sinks ending
   pub said : Said ending uses.err result
-  pub extra : IsUntouched uses.extra

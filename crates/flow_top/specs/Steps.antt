@@ -1,6 +1,6 @@
 -- Words of the proofs: a reader of the contracts needs none of them.
 -- What the private steps of the call do.
-use Rattle.std.specs.Prelude.{◌≡◌, ◌≢◌, ◌⊎◌, ◌+◌, ◌<◌, ◌≤◌, min, Bool, true, false, List, [], ℕ, Option, Some, None, IfSome, Result, Ok, Err}
+use Rattle.std.specs.Prelude.{◌≡◌, ◌⊎◌, ◌+◌, ◌*◌, ◌≤◌, min, Bool, true, false, List, [], ℕ, Option, Some, None, IfSome, Result, Ok, Err}
 use Rattle.flow_edge.specs.Faults.{Rose}
 use Rattle.parts.specs.Parts.{FileParts}
 use Rattle.plant.specs.Sound.{IsPlant}
@@ -16,6 +16,7 @@ use Rattle.report.specs.declared.fault.TopFault.TheVariants.{ReadPlant, ReadExtr
 use Rattle.window_accept.specs.Session.{SessionOf, IsReady, IsAlong}
 use Rattle.flow_top.specs.declared.words.Command.{Command}
 use Rattle.flow_top.specs.declared.words.Command.TheVariants.{Run, Direct, Check}
+use Rattle.flow_top.specs.declared.words.Request.{Request}
 use Rattle.flow_top.specs.declared.fault.Stop.{Stop}
 use Rattle.flow_top.specs.declared.fault.End.{End}
 use Rattle.flow_top.specs.declared.fault.End.TheVariants.{Stopped, NoMemory}
@@ -24,11 +25,21 @@ use Rattle.flow_top.specs.declared.fault.Unfit.TheVariants as unfit
 use Rattle.flow_top.specs.declared.windows.Texts.{Texts}
 use Rattle.flow_top.specs.Faults.{stop_by}
 use Rattle.flow_top.specs.Judged.{Judgement}
-use Rattle.flow_top.specs.Course.{Course, text_of}
-use Rattle.flow_top.specs.Courses.{IsWork}
 use Rattle.flow_top.specs.WindowsCourse.{first_tick, window_rows, traced_in, IsAccepted, StopsAfter}
-use Rattle.flow_top.specs.Uses.{SourceUse, SinkUse, Sinks, IsUnwritten, WasGiven, Broke}
-use Rattle.flow_top.specs.Ended.{SaysParts, IsRefused, Stood, BrokeOff, course_end}
+use Rattle.flow_top.specs.Uses.{SourceUse, SinkUse, Sinks, IsUntouched, IsUnwritten, WasGiven, Broke}
+use Rattle.flow_top.specs.Ended.{SaysParts, IsRefused, WorkEnded, AreTold, records_for, IsBlamed}
+
+-- how many options a request has, and the position behind them
+abbrev pub given : Option ℕ → ℕ
+given None = 0
+given (Some at) = 1
+
+abbrev pub place_after : Request → ℕ
+place_after request = 2 + 2 * (given request.feeds + given request.journal)
+
+-- a check reads no records
+abbrev pub IsAsked : Request → Type 0
+IsAsked request = request.command ≡ Check → request.feeds ≡ None
 
 -- a fact of the judgement that was found, unless memory ran out
 abbrev pub Finds : (Judgement → Type 0) → Result FileParts Unfit → Type 0
@@ -76,12 +87,6 @@ pub data PairEnded (command : Command) (sinks : Sinks) (rows : List ℕ) (steps 
 pub record AreCounted (sinks : Sinks) : Type 0 where
   pub out : sinks.out.before ≤ sinks.out.now
   pub trace : sinks.trace.before ≤ sinks.trace.now
-
--- the command writes a trace
-abbrev pub traces : Command → Bool
-traces Run = true
-traces Direct = false
-traces Check = false
 
 -- the header of its trace, where it writes one
 abbrev pub header_of_steps : Command → Option (List ℕ)
@@ -163,16 +168,9 @@ abbrev pub end_by_feeds : Command → Option TopFault → End
 end_by_feeds command None = NoMemory
 end_by_feeds command (Some fault) = Stopped (stop_by command fault)
 
--- How writing the windows of a plant by these records ends, with the source of records before and after.
-pub data WindowsEnded (command : Command) (parts : FileParts) (records : Option (List ℕ)) (extra : SourceUse) (sinks : Sinks)
+-- how the work of a request on a plant ends, whatever the source of records tells
+pub record RequestEnded (request : Request) (parts : FileParts) (extra : SourceUse) (sinks : Sinks)
     (ending : Result (Unit {0}) End) : Type 0 where
-  through : (course : Course) → IsWork command parts records course → Stood course course.windows sinks →
-      (course.stop ≡ None → IfSome records (λ _. extra.left ≡ Some [])) → ending ≡ course_end course.stop →
-      WindowsEnded command parts records extra sinks ending
-  unread : (course : Course) (k : ℕ) → IsWork command parts records course → Stood course k sinks → Rose extra.before extra.now →
-      ending ≡ Err (Stopped (stop_by command ReadExtra)) → WindowsEnded command parts records extra sinks ending
-  broken : (course : Course) (fault : TopFault) → IsWork command parts records course → text_of course ≢ [] →
-      BrokeOff course sinks fault → ending ≡ Err (Stopped (stop_by command fault)) →
-      WindowsEnded command parts records extra sinks ending
-  within : (course : Course) (k : ℕ) → IsWork command parts records course → Stood course k sinks →
-      (course.stop ≡ None → k < course.windows) → ending ≡ Err NoMemory → WindowsEnded command parts records extra sinks ending
+  pub worked : AreTold request extra → WorkEnded request.command parts (records_for request extra) extra sinks ending
+  pub blamed : IsBlamed request.command ending extra sinks
+  pub unasked : request.feeds ≡ None → IsUntouched extra

@@ -1,5 +1,5 @@
 -- The words of the command line.
-use Rattle.std.specs.Prelude.{◌+◌, ◌&&◌, ℕ, Bool, List, [], ◌∷◌, Option, Some, None, is_none, length, nat_eq, Result, Ok, Err, codes, bytes_eq, if◌then◌else◌}
+use Rattle.std.specs.Prelude.{◌+◌, ◌&&◌, ℕ, Bool, true, false, List, [], ◌∷◌, Option, Some, None, is_none, length, nat_eq, Result, Ok, Err, codes, bytes_eq, if◌then◌else◌}
 use Rattle.flow_top.specs.declared.words.Command.{Command}
 use Rattle.flow_top.specs.declared.words.Command.TheVariants.{Run, Direct, Check}
 use Rattle.flow_top.specs.declared.words.Request.{Request}
@@ -13,13 +13,29 @@ command_named word =
     else if bytes_eq word (codes "check") then Some Check
     else None
 
--- an option that is not given yet: `--journal`
-unfoldable pub takes : Request → List ℕ → Bool
-takes request name = bytes_eq name (codes "--journal") && is_none request.journal
+-- the command reads records of the feeds; and it writes a trace
+abbrev pub reads_records : Command → Bool
+reads_records Run = true
+reads_records Direct = true
+reads_records Check = false
 
--- the file of the option is the word at this position
-abbrev pub with_file : ℕ → Request → Request
-with_file at request = record { command = request.command; journal = Some at }
+abbrev pub writes_trace : Command → Bool
+writes_trace Run = true
+writes_trace Direct = false
+writes_trace Check = false
+
+-- an option that the command has, and that is not given yet: `--feeds` or `--journal`
+unfoldable pub takes : Request → List ℕ → Bool
+takes request name =
+    if bytes_eq name (codes "--feeds") then reads_records request.command && is_none request.feeds
+    else bytes_eq name (codes "--journal") && (writes_trace request.command && is_none request.journal)
+
+-- the file of this option is the word at this position
+unfoldable pub with_file : List ℕ → ℕ → Request → Request
+with_file name at request =
+    if bytes_eq name (codes "--feeds")
+    then record { command = request.command; feeds = Some at; journal = request.journal }
+    else record { command = request.command; feeds = request.feeds; journal = Some at }
 
 -- The options from position `at` on: each is a name and then its value, a word that is not empty.
 abbrev pub options_in : ℕ → Request → List (List ℕ) → Result Request ℕ
@@ -27,15 +43,17 @@ options_in at request [] = Ok request
 options_in at request (name ∷ []) = if takes request name then Err (at + 1) else Err at
 options_in at request (name ∷ value ∷ rest) =
     if takes request name
-    then (if nat_eq (length value) 0 then Err (at + 1) else options_in (at + 2) (with_file (at + 1) request) rest)
+    then (if nat_eq (length value) 0 then Err (at + 1) else options_in (at + 2) (with_file name (at + 1) request) rest)
     else Err at
 
--- what follows the command: the options of `run`, and nothing after another
+-- a command with no option
+abbrev pub bare_request : Command → Request
+bare_request command = record { command = command; feeds = None; journal = None }
+
+-- what follows the command: its options
 abbrev pub asked_after : Option Command → List (List ℕ) → Result Request ℕ
 asked_after None rest = Err 1
-asked_after (Some Run) rest = options_in 2 (record { command = Run; journal = None }) rest
-asked_after (Some command) [] = Ok (record { command = command; journal = None })
-asked_after (Some command) (word ∷ rest) = Err 2
+asked_after (Some command) rest = options_in 2 (bare_request command) rest
 
 -- What the words ask for; or the position of the first word that does not fit, counted from 1, or one past the last where a word is
 -- missing.
@@ -43,17 +61,9 @@ unfoldable pub request_in : List (List ℕ) → Result Request ℕ
 request_in [] = Err 1
 request_in (word ∷ rest) = asked_after (command_named word) rest
 
--- the command alone
-abbrev pub command_of : Result Request ℕ → Result Command ℕ
-command_of (Ok request) = Ok request.command
-command_of (Err at) = Err at
-
-abbrev pub command_in : List (List ℕ) → Result Command ℕ
-command_in words = command_of (request_in words)
-
 -- the positions of the words that name files
 abbrev pub files_of : Result Request ℕ → Files
-files_of (Ok request) = record { extra = None; trace = request.journal }
+files_of (Ok request) = record { extra = request.feeds; trace = request.journal }
 files_of (Err at) = record { extra = None; trace = None }
 
 abbrev pub files_in : List (List ℕ) → Files

@@ -1,67 +1,84 @@
 //! The commands that write the interval run of a plant.
 
+ghost use Rattle.std.specs.Prelude.{◌≡◌};
 ghost use Rattle.flow_top.specs.declared.words.Command.TheVariants.{Run, Direct};
-ghost use Rattle.flow_top.specs.Ended.{WorkEnded};
-ghost use Rattle.flow_top.specs.Uses.{sinks_use};
+ghost use Rattle.window_accept.specs.Session.{opening_session};
+ghost use Rattle.flow_top.specs.Steps.{WritesBy, RequestEnded};
+ghost use Rattle.flow_top.specs.Uses.{source_use, sinks_use};
 
 use crate::fault::End;
 use crate::windows::write_windows;
-use crate::words::Command;
+use crate::words::Request;
 use feeds::FeedReader;
-use flow_edge::{NoSource, Sink};
+use flow_edge::{NoSource, Sink, Source};
 use plant::Plant;
 use relax_core::NoChaos;
 use std::alloc::Global;
 use std::thread::Threads;
 use stepping::Stepper;
-use window_accept::{Relaxing, Session};
+use window_accept::{Relaxing, Session, Windows};
 
-/// Relaxes the windows of a plant, and writes their rows and the steps that settled them.
-pub fn write_run<R: Threads + Sync, O: Sink, T: Sink>(
+/// Writes the windows of a plant by the records of a source, where the request asks for them. Else the source is not touched.
+fn write_fed<R: Threads + Sync, W: Windows, E: Source, O: Sink, T: Sink>(
     rt: &R,
     alloc: Global,
-    plant: Plant,
+    request: Request,
+    windows: &mut W,
+    extra: &mut E,
     out: &mut O,
     trace: &mut T,
 ) -> Result<(), End>
-    ensures { WorkEnded Run plant
+    requires writes { WritesBy request.command W.relaxes }
+    requires opening { (W.session windows.old) ≡ opening_session (W.session windows.old).parts }
+    ensures { RequestEnded request (W.session windows.old).parts (source_use E.left E.faults extra.old extra.new)
         (sinks_use O.given O.faults out.old out.new T.given T.faults trace.old trace.new) result }
 {
-    let mut feeds = FeedReader::plain(alloc, &plant)?;
+    let command = request.command;
+    match request.feeds {
+        Some(_) => {
+            let mut feeds = FeedReader::over(alloc, windows.plant())?;
+            write_windows(rt, alloc, command, windows, &mut feeds, extra, out, trace)
+        }
+        None => {
+            let mut feeds = FeedReader::plain(alloc, windows.plant())?;
+            let source = &mut NoSource;
+            write_windows(rt, alloc, command, windows, &mut feeds, source, out, trace)
+        }
+    }
+}
+
+/// Relaxes the windows of a plant, and writes their rows and the steps that settled them.
+pub fn write_run<R: Threads + Sync, E: Source, O: Sink, T: Sink>(
+    rt: &R,
+    alloc: Global,
+    request: Request,
+    plant: Plant,
+    extra: &mut E,
+    out: &mut O,
+    trace: &mut T,
+) -> Result<(), End>
+    requires { request.command ≡ Run }
+    ensures { RequestEnded request plant (source_use E.left E.faults extra.old extra.new)
+        (sinks_use O.given O.faults out.old out.new T.given T.faults trace.old trace.new) result }
+{
     let mut windows = Relaxing::new(Session::open(alloc, plant)?, NoChaos::new());
-    write_windows(
-        rt,
-        alloc,
-        Command::Run,
-        &mut windows,
-        &mut feeds,
-        &mut NoSource,
-        out,
-        trace,
-    )
+    write_fed(rt, alloc, request, &mut windows, extra, out, trace)
 }
 
 /// Steps the plant, and writes the rows of its windows.
-pub fn write_direct<R: Threads + Sync, O: Sink, T: Sink>(
+pub fn write_direct<R: Threads + Sync, E: Source, O: Sink, T: Sink>(
     rt: &R,
     alloc: Global,
+    request: Request,
     plant: Plant,
+    extra: &mut E,
     out: &mut O,
     trace: &mut T,
 ) -> Result<(), End>
-    ensures { WorkEnded Direct plant
+    requires { request.command ≡ Direct }
+    ensures { RequestEnded request plant (source_use E.left E.faults extra.old extra.new)
         (sinks_use O.given O.faults out.old out.new T.given T.faults trace.old trace.new) result }
 {
-    let mut feeds = FeedReader::plain(alloc, &plant)?;
     let mut windows = Stepper::open(alloc, plant)?;
-    write_windows(
-        rt,
-        alloc,
-        Command::Direct,
-        &mut windows,
-        &mut feeds,
-        &mut NoSource,
-        out,
-        trace,
-    )
+    write_fed(rt, alloc, request, &mut windows, extra, out, trace)
 }

@@ -1,10 +1,12 @@
-ghost use Rattle.std.specs.Prelude.{◌≡◌, ◌<◌, ◌≤◌, ◌+◌, ◌*◌, ◌++◌, min, false, ℕ, ℤ, pos, List, [], ◌∷◌, length, map, slice_index_or, Option, Some, None};
+ghost use Rattle.std.specs.Prelude.{◌≡◌, ◌⊎◌, ◌<◌, ◌≤◌, ◌+◌, ◌*◌, ◌++◌, min, false, ℕ, ℤ, pos, List, [], ◌∷◌, length, map, slice_index_or, Option, Some, None};
 ghost use Rattle.quant.specs.Interval.{AllHold, point, points};
 ghost use Rattle.flowsheet.specs.Trajectory.{IsTrajectory};
 ghost use Rattle.flowsheet.specs.Limited.{ArePoints};
 ghost use Rattle.parts.specs.Parts.{FileParts};
 ghost use Rattle.plant.specs.Sound.{IsPlant};
-ghost use Rattle.feeds.specs.Given.{given_by};
+ghost use Rattle.feeds.specs.Given.{given_by, refusal_by};
+ghost use Rattle.feeds.specs.declared.reader.FeedFault.{FeedFault};
+ghost use Rattle.report.specs.declared.fault.TopFault.{TopFault};
 ghost use Rattle.plant_streams.specs.Streams.{streams_of};
 ghost use Rattle.plant.specs.PlantOf.{plant_of, carried_of};
 ghost use Rattle.tables.specs.Output.{header, rank_header, rows_of, channels};
@@ -17,14 +19,15 @@ ghost use Rattle.relaxation.specs.Tube.{tube_of};
 ghost use Rattle.relaxation.specs.Core.{last_of, reached};
 ghost use Rattle.relax_core.specs.Board.{RowOf, step_in};
 ghost use Rattle.relax_core.specs.Settled.{Settles};
-ghost use Rattle.flow_top.specs.WindowsCourse.{bands_by, all_rows, traced_in, first_tick, ticks_in, wide_fault};
-ghost use Rattle.flow_top.specs.Faults.{stop_by};
+ghost use Rattle.flow_top.specs.WindowsCourse.{bands_by, all_rows, traced_in, first_tick, ticks_in, end_of, wide_fault};
+ghost use Rattle.flow_top.specs.Faults.{stop_by, fault_of_feeds};
 ghost use Rattle.window_accept.specs.declared.wide.TooWide.{TooWide};
 ghost use Rattle.window_accept.specs.Wide.{IsAmong, AreNarrowEnough, IsFirstWide};
 ghost use Rattle.report.specs.Output.{labels_of};
 ghost use Rattle.report.specs.Trace.{names_of, trace_rows, IsTrace};
 ghost use Rattle.report.specs.Ranks.{rank_rows};
 ghost use Rattle.flow_top.specs.Uses.{SourceUse};
+ghost use Rattle.flow_top.specs.Ended.{records_for};
 ghost use Rattle.flow_top.specs.Causes.{IsAtWork, IsEndOn};
 ghost use Rattle.flow_top.specs.Worked.{worked, between};
 
@@ -41,52 +44,61 @@ use window_accept::{first_wide_places_are_one, wide_places_are_found};
 /// give it.
 pub fn courses_print_the_run()
     // After k windows of `run` or `direct`: the header and the rows of the ticks of these windows, which together are the run.
-    ensures windows { (words : List (List ℕ)) (plant : SourceUse) (at : IsAtWork words plant) → WritesRun at.command →
+    ensures windows { (words : List (List ℕ)) (plant extra : SourceUse) (at : IsAtWork words plant extra) → WritesRun at.request.command →
         (k : ℕ) → k ≤ at.course.windows → written at.course k ≡ header ++
-        rows_of (labels_of at.parts) (bands_by at.parts None) 0 (min (k * at.parts.window) at.parts.ticks) }
-    ensures run { (words : List (List ℕ)) (plant : SourceUse) (at : IsAtWork words plant) → WritesRun at.command →
-        at.course.stop ≡ None → text_of at.course ≡ header ++ all_rows at.parts None }
+        rows_of (labels_of at.parts) (bands_by at.parts (records_for at.request extra)) 0 (min (k * at.parts.window) at.parts.ticks) }
+    ensures run { (words : List (List ℕ)) (plant extra : SourceUse) (at : IsAtWork words plant extra) → WritesRun at.request.command →
+        at.course.stop ≡ None → text_of at.course ≡ header ++ all_rows at.parts (records_for at.request extra) }
 
-    // A stop is the first band of the run that is wider than was asked, and lies in the window after them.
-    ensures wide { (words : List (List ℕ)) (plant : SourceUse) (at : IsAtWork words plant) (stop : Stop) →
+    // No window of these takes a record that is refused. A stop is the record of the window after them that is; or that window takes
+    // none, and the stop is the first band of the run that is wider than was asked, and lies in it.
+    ensures taken { (words : List (List ℕ)) (plant extra : SourceUse) (at : IsAtWork words plant extra) →
+        WritesRun at.request.command → (w : ℕ) → w < at.course.windows →
+        refusal_by at.parts (records_for at.request extra) (end_of at.parts w) ≡ None }
+    ensures stop { (words : List (List ℕ)) (plant extra : SourceUse) (at : IsAtWork words plant extra) (stop : Stop) →
         at.course.stop ≡ Some stop →
-        (place : TooWide) × (stop ≡ stop_by at.command (wide_fault at.parts place))
+        ((found : FeedFault) × (fault : TopFault) × (fault_of_feeds found ≡ Some fault)
+        × (stop ≡ stop_by at.request.command fault)
+        × (refusal_by at.parts (records_for at.request extra) (end_of at.parts at.course.windows) ≡ Some found))
+        ⊎ ((place : TooWide) × (stop ≡ stop_by at.request.command (wide_fault at.parts place))
+        × (refusal_by at.parts (records_for at.request extra) (end_of at.parts at.course.windows) ≡ None)
         × IsAmong (first_tick at.parts at.course.windows) (ticks_in at.parts at.course.windows) place
-        × IsFirstWide at.parts (bands_by at.parts None) 0 at.parts.ticks place }
+        × IsFirstWide at.parts (bands_by at.parts (records_for at.request extra)) 0 at.parts.ticks place) }
 
     // Where nothing stops it, no band of the run is wider than was asked.
-    ensures narrow { (words : List (List ℕ)) (plant : SourceUse) (at : IsAtWork words plant) → WritesRun at.command →
-        at.course.stop ≡ None → AreNarrowEnough at.parts (bands_by at.parts None) 0 at.parts.ticks }
+    ensures narrow { (words : List (List ℕ)) (plant extra : SourceUse) (at : IsAtWork words plant extra) → WritesRun at.request.command →
+        at.course.stop ≡ None → AreNarrowEnough at.parts (bands_by at.parts (records_for at.request extra)) 0 at.parts.ticks }
 
     // `check` prints a header and one row for each unit.
-    ensures check { (words : List (List ℕ)) (plant : SourceUse) (at : IsAtWork words plant) → at.command ≡ Command.Check →
+    ensures check { (words : List (List ℕ)) (plant extra : SourceUse) (at : IsAtWork words plant extra) → at.request.command ≡ Command.Check →
         text_of at.course ≡ rank_header ++ rank_rows at.parts }
 
     // Each channel of each stream has a band at each tick, and so a row.
-    ensures channels { (words : List (List ℕ)) (plant : SourceUse) (at : IsAtWork words plant) (tick s : ℕ) →
+    ensures channels { (words : List (List ℕ)) (plant extra : SourceUse) (at : IsAtWork words plant extra) (tick s : ℕ) →
         s < length (streams_of at.parts) →
-        length (bands_by at.parts None tick s) ≡
+        length (bands_by at.parts (records_for at.request extra) tick s) ≡
         length (channels (slice_index_or (map (λ stream. stream.signal) (streams_of at.parts)) s false)) }
 {
     records_stay_in_limits();
 }
 
-/// The bands that are printed for a plant hold each trajectory of it over n ticks, at every one of them, stream and channel.
+/// The bands that are printed for a plant hold each trajectory of it over n ticks, at every one of them, stream and channel, with the
+/// feeds' bands that the plant file gives and the records that are asked for.
 /// Where each opening band is one number, and each feed at these ticks, they are the trajectory's values. Each plant has
 /// a trajectory. The law takes what the clauses of `flow_top` give of a command at work on a plant.
 pub fn printed_bands_hold_trajectories()
-    ensures holds { (words : List (List ℕ)) (plant : SourceUse) (at : IsAtWork words plant) (n : ℕ) (x y : ℕ → ℕ → List ℤ) →
-        IsTrajectory (plant_of at.parts) (carried_of at.parts) (given_by at.parts None) n x y →
+    ensures holds { (words : List (List ℕ)) (plant extra : SourceUse) (at : IsAtWork words plant extra) (n : ℕ) (x y : ℕ → ℕ → List ℤ) →
+        IsTrajectory (plant_of at.parts) (carried_of at.parts) (given_by at.parts (records_for at.request extra)) n x y →
         (tick s : ℕ) → tick < n → s < length (streams_of at.parts) →
-        AllHold (bands_by at.parts None tick s) (x tick s) }
-    ensures values { (words : List (List ℕ)) (plant : SourceUse) (at : IsAtWork words plant) (n : ℕ) (x y : ℕ → ℕ → List ℤ) →
-        ArePoints (plant_of at.parts) (carried_of at.parts) (given_by at.parts None) n →
-        IsTrajectory (plant_of at.parts) (carried_of at.parts) (given_by at.parts None) n x y →
+        AllHold (bands_by at.parts (records_for at.request extra) tick s) (x tick s) }
+    ensures values { (words : List (List ℕ)) (plant extra : SourceUse) (at : IsAtWork words plant extra) (n : ℕ) (x y : ℕ → ℕ → List ℤ) →
+        ArePoints (plant_of at.parts) (carried_of at.parts) (given_by at.parts (records_for at.request extra)) n →
+        IsTrajectory (plant_of at.parts) (carried_of at.parts) (given_by at.parts (records_for at.request extra)) n x y →
         (tick s : ℕ) → tick < n → s < length (streams_of at.parts) →
-        bands_by at.parts None tick s ≡ points (x tick s) }
-    ensures exists { (words : List (List ℕ)) (plant : SourceUse) (at : IsAtWork words plant) →
+        bands_by at.parts (records_for at.request extra) tick s ≡ points (x tick s) }
+    ensures exists { (words : List (List ℕ)) (plant extra : SourceUse) (at : IsAtWork words plant extra) →
         (x : ℕ → ℕ → List ℤ) × (y : ℕ → ℕ → List ℤ) ×
-        IsTrajectory (plant_of at.parts) (carried_of at.parts) (given_by at.parts None) at.parts.ticks x y }
+        IsTrajectory (plant_of at.parts) (carried_of at.parts) (given_by at.parts (records_for at.request extra)) at.parts.ticks x y }
 {
     built_plants_are_plants();
     trajectories_lie_in_the_run();
@@ -110,13 +122,13 @@ pub fn direct_prints_the_run()
     first_wide_places_are_one();
 }
 
-/// Each text has one judgement, and each command one end on it.
+/// Each text has one judgement, and each command one end on it with each text of records.
 pub fn texts_are_judged_once()
     ensures judged { (text : List ℕ) → (judgement : Judgement) × IsJudged text judgement }
     ensures judged_once { (text : List ℕ) (one other : Judgement) → IsJudged text one → IsJudged text other → one ≡ other }
-    ensures ends { (command : Command) (text : List ℕ) → (end : Option Stop) × IsEndOn command text end }
-    ensures ends_once { (command : Command) (text : List ℕ) (one other : Option Stop) →
-        IsEndOn command text one → IsEndOn command text other → one ≡ other }
+    ensures ends { (command : Command) (text : List ℕ) (records : Option (List ℕ)) → (end : Option Stop) × IsEndOn command text records end }
+    ensures ends_once { (command : Command) (text : List ℕ) (records : Option (List ℕ)) (one other : Option Stop) →
+        IsEndOn command text records one → IsEndOn command text records other → one ≡ other }
 {
     read_parts_are_in_range();
     verdicts_exist();
@@ -145,26 +157,26 @@ pub fn commands_have_one_course()
 /// they leave are the bands of the interval run at the window's ticks, and a legal text lists for each window such steps, the same
 /// for all streams. `run` writes a trace, and `direct` and `check` none.
 pub fn traces_lead_to_the_run()
-    ensures run { (words : List (List ℕ)) (plant : SourceUse) (at : IsAtWork words plant) → at.command ≡ Command.Run →
-        at.course.trace ≡ Some (traced_in at.parts None) }
-    ensures direct { (words : List (List ℕ)) (plant : SourceUse) (at : IsAtWork words plant) → at.command ≡ Command.Direct →
+    ensures run { (words : List (List ℕ)) (plant extra : SourceUse) (at : IsAtWork words plant extra) → at.request.command ≡ Command.Run →
+        at.course.trace ≡ Some (traced_in at.parts (records_for at.request extra)) }
+    ensures direct { (words : List (List ℕ)) (plant extra : SourceUse) (at : IsAtWork words plant extra) → at.request.command ≡ Command.Direct →
         at.course.trace ≡ None }
-    ensures check { (words : List (List ℕ)) (plant : SourceUse) (at : IsAtWork words plant) → at.command ≡ Command.Check →
+    ensures check { (words : List (List ℕ)) (plant extra : SourceUse) (at : IsAtWork words plant extra) → at.request.command ≡ Command.Check →
         at.course.trace ≡ None }
-    ensures leads { (words : List (List ℕ)) (plant : SourceUse) (at : IsAtWork words plant) → at.command ≡ Command.Run →
+    ensures leads { (words : List (List ℕ)) (plant extra : SourceUse) (at : IsAtWork words plant extra) → at.request.command ≡ Command.Run →
         (w s : ℕ) → w < at.course.windows → s < length (streams_of at.parts) →
-        (rows : List RowOf) → Settles ((traced_in at.parts None).window w) rows →
-        last_of (reached ((traced_in at.parts None).window w) (map step_in rows)) s
-        ≡ tube_of (λ t. bands_by at.parts None (first_tick at.parts w + t) s) (ticks_in at.parts w) }
-    ensures listed { (words : List (List ℕ)) (plant : SourceUse) (at : IsAtWork words plant) → at.command ≡ Command.Run →
+        (rows : List RowOf) → Settles ((traced_in at.parts (records_for at.request extra)).window w) rows →
+        last_of (reached ((traced_in at.parts (records_for at.request extra)).window w) (map step_in rows)) s
+        ≡ tube_of (λ t. bands_by at.parts (records_for at.request extra) (first_tick at.parts w + t) s) (ticks_in at.parts w) }
+    ensures listed { (words : List (List ℕ)) (plant extra : SourceUse) (at : IsAtWork words plant extra) → at.request.command ≡ Command.Run →
         (k w : ℕ) (text : List ℕ) → k ≤ at.course.windows → w < k →
-        IsTrace (names_of at.parts) (traced_in at.parts None).window k text →
+        IsTrace (names_of at.parts) (traced_in at.parts (records_for at.request extra)).window k text →
         (before : List ℕ) × (rows : List RowOf) × (after : List ℕ)
         × (text ≡ before ++ (trace_rows (names_of at.parts) w rows ++ after))
-        × Settles ((traced_in at.parts None).window w) rows
+        × Settles ((traced_in at.parts (records_for at.request extra)).window w) rows
         × ((s : ℕ) → s < length (streams_of at.parts) →
-        last_of (reached ((traced_in at.parts None).window w) (map step_in rows)) s
-        ≡ tube_of (λ t. bands_by at.parts None (first_tick at.parts w + t) s) (ticks_in at.parts w)) }
+        last_of (reached ((traced_in at.parts (records_for at.request extra)).window w) (map step_in rows)) s
+        ≡ tube_of (λ t. bands_by at.parts (records_for at.request extra) (first_tick at.parts w + t) s) (ticks_in at.parts w)) }
 {
     traces_settle_their_windows();
     records_stay_in_limits();

@@ -10,7 +10,7 @@ pub fn files(words: &[Word]) -> Files
 {
     match request_in(words) {
         Ok(request) => Files {
-            extra: None,
+            extra: request.feeds,
             trace: request.journal,
         },
         Err(_) => Files {

@@ -1,6 +1,6 @@
 //! The windows of a plant, written one after another.
 
-ghost use Rattle.std.specs.Prelude.{◌≡◌, ◌⊎◌, ◌<◌, ◌≤◌, ℕ, List, Option, IfOk, length};
+ghost use Rattle.std.specs.Prelude.{◌≡◌, ◌⊎◌, ◌<◌, ◌≤◌, ℕ, List, Option, Err, IfOk, IfErr, length};
 ghost use Rattle.std.specs.Option.{option_map};
 ghost use Rattle.plant_streams.specs.Streams.{streams_of};
 ghost use Rattle.tables.specs.Output.{channels};
@@ -12,14 +12,15 @@ ghost use Rattle.window_accept.specs.Session.{opening_session, IsAlong};
 ghost use Rattle.flow_top.specs.declared.fault.End.TheVariants.{Stopped, NoMemory};
 ghost use Rattle.flow_top.specs.Faults.{stop_by, fault_of_feeds};
 ghost use Rattle.flow_top.specs.WindowsCourse.{first_tick, wide_fault, IsWindowCount};
-ghost use Rattle.flow_top.specs.Steps.{traces, header_of_steps, WritesBy, AreTextsOf, IsOpened, IsBefore, HasMoved, end_by_feeds};
-ghost use Rattle.flow_top.specs.Steps.{TextsEnded, PairEnded, AreCounted, WindowsEnded};
-ghost use Rattle.flow_top.specs.Uses.{source_use, sinks_use};
+ghost use Rattle.flow_top.specs.Steps.{header_of_steps, WritesBy, AreTextsOf, IsOpened, IsBefore, HasMoved, end_by_feeds};
+ghost use Rattle.flow_top.specs.Steps.{TextsEnded, PairEnded, AreCounted};
+ghost use Rattle.flow_top.specs.Ended.{WorkEnded, IsBlamed};
+ghost use Rattle.flow_top.specs.Uses.{Sinks, source_use, sinks_use};
 
 use crate::fault::{End, fault_of_feeds};
 use crate::pieces::write_pair;
 use crate::stops::stop_by;
-use crate::words::Command;
+use crate::words::{Command, writes_trace};
 use feeds::{FeedFault, FeedReader};
 use flow_edge::{Sink, Source};
 use parts::Parts;
@@ -39,16 +40,6 @@ use window_accept::{
 pub(crate) struct Texts {
     rows: Text,
     steps: Option<Text>,
-}
-
-/// Whether a command writes a trace.
-fn traces(command: Command) -> bool
-    ensures { result ≡ traces command }
-{
-    match command {
-        Command::Run => true,
-        Command::Direct | Command::Check => false,
-    }
 }
 
 /// The header of the trace, where the command writes one.
@@ -142,6 +133,8 @@ fn next_texts<R: Threads + Sync, W: Windows, E: Source>(
     requires more { first_tick (W.session windows.old).parts index < (W.session windows.old).parts.ticks }
     ensures moved { IfOk result (λ _. HasMoved index (W.session windows.old) (W.session windows.new) feeds.new) }
     ensures counted { E.faults extra.old ≤ E.faults extra.new }
+    ensures blamed { IfErr result (λ end. (sinks : Sinks) →
+        IsBlamed command (Err end) (source_use E.left E.faults extra.old extra.new) sinks) }
     ensures texts { (records : Option (List ℕ)) →
         IsAlong records (W.session windows.old) (feeding E.left E.faults feeds.old extra.old) →
         TextsEnded command W.relaxes (W.session windows.old).parts records index (W.session windows.new)
@@ -149,7 +142,7 @@ fn next_texts<R: Threads + Sync, W: Windows, E: Source>(
 {
     sessions_follow_the_run();
     readers_stay_ready();
-    let relaxed = traces(command);
+    let relaxed = writes_trace(command);
     match windows.next_window(rt, alloc, feeds, extra) {
         Ok(window) => Ok(window_texts(alloc, relaxed, windows.plant(), index, &window)?),
         Err(WindowEnd::Wide { place }) => Err(end_by_width(alloc, command, windows.plant(), place)),
@@ -189,9 +182,11 @@ pub fn write_windows<R: Threads + Sync, W: Windows, E: Source, O: Sink, T: Sink>
     requires writes { WritesBy command W.relaxes }
     requires opening { (W.session windows.old) ≡ opening_session (W.session windows.old).parts }
     requires reader { IsOpened (W.session windows.old).parts feeds.old }
-    ensures { (records : Option (List ℕ)) →
+    ensures blamed { IsBlamed command result (source_use E.left E.faults extra.old extra.new)
+        (sinks_use O.given O.faults out.old out.new T.given T.faults trace.old trace.new) }
+    ensures ended { (records : Option (List ℕ)) →
         Stands (W.session windows.old).parts records (feeding E.left E.faults feeds.old extra.old) →
-        WindowsEnded command (W.session windows.old).parts records (source_use E.left E.faults extra.old extra.new)
+        WorkEnded command (W.session windows.old).parts records (source_use E.left E.faults extra.old extra.new)
         (sinks_use O.given O.faults out.old out.new T.given T.faults trace.old trace.new) result }
 {
     sessions_follow_the_run();

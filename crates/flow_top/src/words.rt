@@ -1,6 +1,6 @@
 ghost use Rattle.std.specs.Prelude.{◌≡◌};
-ghost use Rattle.flow_top.specs.declared.words.Command.TheVariants.{Run};
-ghost use Rattle.flow_top.specs.Words.{command_named, options_in, request_in};
+ghost use Rattle.flow_top.specs.Words.{command_named, reads_records, writes_trace, takes, with_file, options_in, request_in};
+ghost use Rattle.flow_top.specs.Steps.{place_after};
 
 use flow_edge::Word;
 
@@ -19,6 +19,8 @@ pub enum Command {
 #[derive(Clone, Copy, Debug, PartialEq, Eq)]
 pub struct Request {
     pub command: Command,
+    /// The position of the word that names the file of feed records, counted from 1.
+    pub feeds: Option<u32>,
     /// The position of the word that names the file of the trace, counted from 1.
     pub journal: Option<u32>,
 }
@@ -26,7 +28,7 @@ pub struct Request {
 /// The positions of the words that name files, counted from 1.
 #[derive(Clone, Copy, Debug, PartialEq, Eq)]
 pub struct Files {
-    /// The file of feed records; none is asked for yet.
+    /// The file of feed records.
     pub extra: Option<u32>,
     /// The file that is given the trace.
     pub trace: Option<u32>,
@@ -48,25 +50,72 @@ fn command_named(word: &[u8]) -> Option<Command>
     None
 }
 
-/// The request of `run` with these words after it.
-#[tactic(auto, unfolding(crate::specs::Words::takes))]
-fn run_options(options: &[Word]) -> Result<Request, u32>
-    ensures { result ≡ options_in 2 (record { command = Run; journal = None }) options.now }
+/// Whether a command reads records of the feeds.
+fn reads_records(command: Command) -> bool
+    ensures { result ≡ reads_records command }
 {
-    let command = Command::Run;
+    match command {
+        Command::Run | Command::Direct => true,
+        Command::Check => false,
+    }
+}
+
+/// Whether a command writes a trace.
+pub fn writes_trace(command: Command) -> bool
+    ensures { result ≡ writes_trace command }
+{
+    match command {
+        Command::Run => true,
+        Command::Direct | Command::Check => false,
+    }
+}
+
+/// Whether an option is one that the command has, and that is not given yet.
+#[tactic(auto, unfolding(crate::specs::Words::takes))]
+fn takes(request: Request, name: &[u8]) -> bool
+    ensures { result ≡ takes request name.now }
+{
+    if name == b"--feeds".as_slice() {
+        reads_records(request.command) && request.feeds.is_none()
+    } else {
+        name == b"--journal".as_slice()
+            && writes_trace(request.command)
+            && request.journal.is_none()
+    }
+}
+
+/// The request with the file of an option at this position.
+#[tactic(auto, unfolding(crate::specs::Words::with_file))]
+fn with_file(request: Request, name: &[u8], at: u32) -> Request
+    ensures { result ≡ with_file name.now at request }
+{
+    if name == b"--feeds".as_slice() {
+        Request {
+            feeds: Some(at),
+            ..request
+        }
+    } else {
+        Request {
+            journal: Some(at),
+            ..request
+        }
+    }
+}
+
+/// The request with these options, the first of which begins at this position; or the position of the first word that does not fit,
+/// or one past the last where a word is missing.
+fn options_in(options: &[Word], at: u32, request: Request) -> Result<Request, u32>
+    requires { at ≡ place_after request }
+    ensures { result ≡ options_in at request options.now }
+{
     match options {
-        [] => Ok(Request {
-            command,
-            journal: None,
-        }),
-        [name, ..] if name.as_bytes() != b"--journal".as_slice() => Err(2),
-        [_] => Err(3),
-        [_, file, ..] if file.as_bytes().is_empty() => Err(3),
-        [_, _] => Ok(Request {
-            command,
-            journal: Some(3),
-        }),
-        _ => Err(4),
+        [] => Ok(request),
+        [name, ..] if !takes(request, name.as_bytes()) => Err(at),
+        [_] => Err(at + 1),
+        [_, file, ..] if file.as_bytes().is_empty() => Err(at + 1),
+        [name, _, rest @ ..] => {
+            options_in(rest, at + 2, with_file(request, name.as_bytes(), at + 1))
+        }
     }
 }
 
@@ -80,12 +129,15 @@ pub fn request_in(words: &[Word]) -> Result<Request, u32>
         [] => Err(1),
         [word, rest @ ..] => match command_named(word.as_bytes()) {
             None => Err(1),
-            Some(Command::Run) => run_options(rest),
-            Some(command) if rest.is_empty() => Ok(Request {
-                command,
-                journal: None,
-            }),
-            Some(_) => Err(2),
+            Some(command) => options_in(
+                rest,
+                2,
+                Request {
+                    command,
+                    feeds: None,
+                    journal: None,
+                },
+            ),
         },
     }
 }

@@ -12,6 +12,6 @@ pub returns-clause-judged : goal.returns-clause-judged
 returns-clause-judged c = judgement-exists c.verdicts_exist.ensures c.read_parts_are_in_range.ensures
 
 pub returns-clause-ends : goal.returns-clause-ends
-returns-clause-ends c command text =
+returns-clause-ends c command text records =
     let judged = judgement-exists c.verdicts_exist.ensures c.read_parts_are_in_range.ensures text in
-    end-exists c.wide_places_are_found.ensures command text judged.0 judged.1
+    end-exists c.wide_places_are_found.ensures command text records judged.0 judged.1

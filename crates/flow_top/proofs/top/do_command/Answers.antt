@@ -4,8 +4,9 @@ use Rattle.flow_top.proofs.Work.{plantless-ended}
 use Rattle.flow_top.proofs.top.do_command.Goals as goal
 
 pub returns-in-Ok : goal.returns-in-Ok
-returns-in-Ok g c = worked c.in-Ok.plant c.in-Ok.ensures.says c.do_on_plant.ensures
+returns-in-Ok g c =
+    let ends = c.do_on_plant.ensures in worked c.in-Ok.plant c.in-Ok.ensures.says ends.worked ends.blamed ends.unasked
 
 pub returns-in-Err : goal.returns-in-Err
-returns-in-Err g c = plantless-ended c.args.command c.in-Err.end _ _
+returns-in-Err g c = plantless-ended c.args.request c.in-Err.end _ _ _ (record { text = refl; count = refl })
     (record { out = record { text = refl; count = refl }; trace = record { text = refl; count = refl } }) c.in-Err.ensures

@@ -10,7 +10,10 @@ use Rattle.window_accept.specs.Wide.{AreNarrowEnough, IsFirstWide, is_signal}
 use Rattle.window_accept.specs.declared.end.WindowEnd.TheVariants.{Feed, Wide}
 use Rattle.window_accept.specs.Session.{IsMadeBy, HasRunAt, NextWindow}
 use Rattle.flow_top.specs.WindowsCourse.{bands_by}
+use Rattle.flow_top.specs.Uses.{source_use}
+use Rattle.flow_top.specs.Ended.{IsBlamed}
 use Rattle.flow_top.specs.Steps.{AreTextsOf, TextsEnded}
+use Rattle.flow_top.proofs.Blame.{wide-blamed, feeds-blamed}
 use Rattle.flow_top.proofs.Texts.{at-window, at-this, as-texts, same-kind, stopped-at, unfed-at, wide-there, same-parts, read-with}
 use Rattle.flow_top.proofs.windows.next_texts.Goals as goal
 
@@ -55,7 +58,7 @@ returns-in_ok-window_texts-in-Ok-clause-texts g c records along =
     let laws = c.sessions_follow_the_run.ensures in
     let next = c.in-Ok.ensures in
     let here = at-window old w c.requires.before.tick c.requires.more in
-    let kind = same-kind c.args.command relaxes c.requires.writes ∙ sym c.traces-relaxed.ensures in
+    let kind = same-kind c.args.command relaxes c.requires.writes ∙ sym c.writes_trace-relaxed.ensures in
     let same = same-parts _ old new reader read _ next in
     let run = at-this (λ first n. HasRunAt parts records first n window) old w here
     (laws.window relaxes records old new reader read window along next) in
@@ -63,7 +66,7 @@ returns-in_ok-window_texts-in-Ok-clause-texts g c records along =
     (laws.made relaxes records old new reader read window along next) in
     let are : AreTextsOf relaxes parts w window texts =
     subst (λ relaxes. AreTextsOf relaxes parts w window texts) (sym kind)
-    (subst (λ parts. AreTextsOf c.traces-relaxed.result parts w window texts) (c.plant.ensures.plant ∙ same)
+    (subst (λ parts. AreTextsOf c.writes_trace-relaxed.result parts w window texts) (c.plant.ensures.plant ∙ same)
     c.in_ok-window_texts-in-Ok.ensures) in
     record {
       texts_are = as-texts relaxes parts records w window texts run made are;
@@ -117,3 +120,22 @@ returns-in-Err-Feed-clause-texts g c records along =
     (unfed-at c.args.command relaxes parts records w new reader read fault c.requires.more
     (at-this (λ first n. (refusal_by parts records (first + n) ≡ Some fault) ⊎ IsFailure fault) old w here
     (c.sessions_follow_the_run.ensures.fed relaxes records old new reader read fault along next)) failed)
+
+pub returns-in-Err-Wide-clause-blamed : goal.returns-in-Err-Wide-clause-blamed
+returns-in-Err-Wide-clause-blamed g c =
+    wide-blamed c.args.command c.plant-in-Err-Wide.result.now c.in-Err-Wide.place _ _ c.end_by_width.ensures
+
+pub returns-in-Err-Feed-clause-blamed : goal.returns-in-Err-Feed-clause-blamed
+returns-in-Err-Feed-clause-blamed g c sinks =
+    let old = g.W.Windows.session c.args.windows.now in
+    let new = g.W.Windows.session c.next_window.new.self in
+    let reader = feeding g.E.Source.left g.E.Source.faults c.args.feeds.now c.args.extra.now in
+    let read = feeding g.E.Source.left g.E.Source.faults c.next_window.new.feeds c.next_window.new.source in
+    let fault = c.in-Err-Feed.fault in
+    let relaxes = g.W.Windows.relaxes in
+    let next : NextWindow relaxes old new reader read (Err (Feed fault)) = rw (sym c.in-Err-Feed.field-0-is) c.in-Err-Feed.ensures in
+    let extra = source_use g.E.Source.left g.E.Source.faults c.args.extra.now c.next_window.new.source in
+    subst (λ end. IsBlamed c.args.command (Err end) extra sinks) (sym c.end_by_feeds.ensures)
+    (feeds-blamed c.args.command fault extra
+    (λ e. c.readers_stay_ready.ensures.failed relaxes old new reader read c.requires.before.unended c.requires.before.faultless
+    (subst (λ f. NextWindow relaxes old new reader read (Err (Feed f))) e next)) sinks)
