@@ -21,7 +21,7 @@ use Rattle.plant.specs.Sound.{IsPlant}
 use Rattle.plant.proofs.Lookups.{from_feed, from_port, from, origin-is, streams-counted}
 use Rattle.plant.proofs.Sources.{by-origin}
 use Rattle.plant.proofs.PlantLaws.{plant-sound, port-limits, parts-ranked, parts-limited, parts-bands}
-use Rattle.feeds.specs.Given.{AreGiven}
+use Rattle.feeds.proofs.Windows.{StaysWithin}
 use Rattle.tables.specs.Output.{channels}
 
 -- a stream's origin that is a feed is one that is there
@@ -35,14 +35,14 @@ feed-there parts s f l e = subst (IsFed parts) e
     (by-origin parts (IsFed parts) (λ g m. m) (λ u p m k. tt) s (subst (λ k. s < k) (streams-counted parts) l))
 
 -- bands that can be given to the feeds, with the opening bands, have numbers in them
-pub given-numbers : (parts : FileParts) (given : ℕ → ℕ → List Interval) → IsPlant parts → AreGiven parts given → (n : ℕ) →
+pub given-numbers : (parts : FileParts) (given : ℕ → ℕ → List Interval) → IsPlant parts → StaysWithin parts given → (n : ℕ) →
     AreBands (plant_of parts) (carried_of parts) given n
 given-numbers parts given plant are n = record {
   states = (parts-bands parts n plant).states;
   fed = λ t s f m l e. (are t f (feed-there parts s f l e)).numbers;
 }
 
-run-limits : (parts : FileParts) (given : ℕ → ℕ → List Interval) → IsPlant parts → AreGiven parts given → (tick s : ℕ) →
+run-limits : (parts : FileParts) (given : ℕ → ℕ → List Interval) → IsPlant parts → StaysWithin parts given → (tick s : ℕ) →
     s < length (streams_of parts) → length (streams_of_run parts given tick s) ≡ length (limits_at parts s)
 run-limits parts given plant are tick s h = elim (from parts s (plant-sound parts plant) h) [
   | from_feed f e k ↦
@@ -69,7 +69,7 @@ channels-counted parts [] s h = absurd (omega (arith, h))
 channels-counted parts (stream ∷ rest) zero h = channel-count (source_limits parts stream.source) stream.signal
 channels-counted parts (stream ∷ rest) (suc s) h = channels-counted parts rest s (omega (arith, h))
 
-pub run-channels : (parts : FileParts) (given : ℕ → ℕ → List Interval) → IsPlant parts → AreGiven parts given → (tick s : ℕ) →
+pub run-channels : (parts : FileParts) (given : ℕ → ℕ → List Interval) → IsPlant parts → StaysWithin parts given → (tick s : ℕ) →
     s < length (streams_of parts) →
     length (streams_of_run parts given tick s)
     ≡ length (channels (slice_index_or (map (λ stream. stream.signal) (streams_of parts)) s false))

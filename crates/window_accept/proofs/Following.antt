@@ -16,7 +16,7 @@ use Rattle.feeds.specs.ReaderOf.{Feeding}
 use Rattle.feeds.specs.Reader.{GivesBy, IsFailure}
 use Rattle.feeds.specs.declared.reader.FeedFault.{FeedFault}
 use Rattle.feeds.proofs.Windows.{is-plan, run-is, joined}
-use Rattle.feeds.proofs.Accepted.{records-within}
+use Rattle.feeds.proofs.Limits.{given-within}
 use Rattle.relax_core.specs.Settled.{WindowOf}
 use Rattle.window_accept.specs.declared.wide.TooWide.{TooWide}
 use Rattle.window_accept.specs.declared.end.WindowEnd.{WindowEnd}
@@ -96,9 +96,8 @@ module _ (records : Option (List ℕ)) (old : SessionOf) (reader read : Feeding)
   tube-is : (s : ℕ) → s < length (streams_of old.parts) → run_tube (window_of (next_plan old feeds)) s
       ≡ tube_of (λ t. bands_by records old (old.tick + t) s) (next_ticks old)
   tube-is s l = ap (λ (plan : PlanOf). run_tube (window_of plan) s) plan-is
-      ∙ run-is old.parts (given_by old.parts records) old.tick (next_ticks old) along.session_is.plant
-      (records-within old.parts records along.session_is.plant) (some-ticks old along.session_is going.left)
-      (few-ticks old along.session_is) (ticks-inside old along.session_is) s l
+      ∙ run-is old.parts (given_by old.parts records) along.session_is.plant
+      (given-within old.parts records along.session_is.plant) old.tick (next_ticks old) s l
 
   -- and its bands are the run's
   pub bands-are : (t s : ℕ) → old.tick ≤ t → t < old.tick + next_ticks old → s < length (streams_of old.parts) →
@@ -126,8 +125,8 @@ module _ (records : Option (List ℕ)) (old : SessionOf) (reader read : Feeding)
   -- the states of the run are carried on, as windows join
   follows-on : FollowsRun records (moved_on old feeds)
   follows-on = ap (λ (plan : PlanOf). states_after plan) plan-is
-      ∙ joined old.parts (given_by old.parts records) old.tick (next_ticks old) along.session_is.plant
-      (records-within old.parts records along.session_is.plant) 0
+      ∙ joined old.parts (given_by old.parts records) along.session_is.plant
+      (given-within old.parts records along.session_is.plant) old.tick (next_ticks old) 0
 
   -- and lie in the limits, so the session goes on along the run
   pub along-on : ((plan : PlanOf) → IsPlan plan → AreCarried plan.parts (states_after plan)) → IsAlong records (moved_on old feeds) read
@@ -135,8 +134,8 @@ module _ (records : Option (List ℕ)) (old : SessionOf) (reader read : Feeding)
     session_is = record {
       plant = along.session_is.plant;
       tick = ticks-inside old along.session_is;
-      carried = law (next_plan old feeds) (subst IsPlan (sym plan-is) (is-plan old.parts (given_by old.parts records) old.tick
-          (next_ticks old) along.session_is.plant (records-within old.parts records along.session_is.plant)
+      carried = law (next_plan old feeds) (subst IsPlan (sym plan-is) (is-plan old.parts (given_by old.parts records)
+          along.session_is.plant (given-within old.parts records along.session_is.plant) old.tick (next_ticks old)
           (some-ticks old along.session_is going.left) (few-ticks old along.session_is) (ticks-inside old along.session_is)));
     };
     follows = follows-on;

@@ -14,7 +14,7 @@ use Rattle.feeds.specs.Reader.{Gives, AreFeedTubes}
 use Rattle.feeds.specs.declared.reader.FeedFault.{FeedFault}
 use Rattle.feeds.specs.declared.reader.FeedFault.TheVariants as feed
 use Rattle.feeds.proofs.Windows.{is-plan, opening-is}
-use Rattle.feeds.proofs.Accepted.{records-within}
+use Rattle.feeds.proofs.Limits.{given-within}
 use Rattle.relax_core.specs.Settled.{Settles}
 use Rattle.window_accept.specs.declared.wide.TooWide.{TooWide}
 use Rattle.window_accept.specs.declared.end.WindowEnd.TheVariants as end
@@ -42,8 +42,8 @@ pub opening-session : (file : FileParts) (carried : List (List Interval)) → Is
     carried ≡ map opening_of (units_of file) →
     IsSession (record { parts = file; tick = 0; carried = carried; end = None })
 opening-session file carried plant is =
-    let plan : IsPlan (run_plan file (given_by file None) 0 1) = is-plan file (given_by file None) 0 1 plant
-    (records-within file None plant) (omega arith) (omega arith) (omega (arith, plant.ranges.ticks.0)) in
+    let plan : IsPlan (run_plan file (given_by file None) 0 1) = is-plan file (given_by file None) plant
+    (given-within file None plant) 0 1 (omega arith) (omega arith) (omega (arith, plant.ranges.ticks.0)) in
     let same : (run_plan file (given_by file None) 0 1).carried ≡ carried = opening-is file (given_by file None) 1 ∙ sym is in
     record {
       plant = plant;

@@ -1,6 +1,6 @@
 //! Windows of plants for tests.
 
-use feeds::{given_tubes, records_stay_in_limits, windows_cut_the_run};
+use feeds::{given_tubes, windows_cut_the_run};
 use plant::Plant;
 use plant_texts::{LOW_FLOW, Unit, plant_with};
 use renewal::{Carried, WindowPlan};
@@ -21,6 +21,5 @@ pub fn window_in<'p>(alloc: Global, plant: &'p Plant, ticks: u32) -> Result<Wind
     let carried = Carried::opening(alloc, plant)?;
     let feeds = given_tubes(alloc, plant, 0, ticks)?;
     windows_cut_the_run();
-    records_stay_in_limits();
     Ok(WindowPlan::new(plant, 0, ticks, carried, feeds))
 }

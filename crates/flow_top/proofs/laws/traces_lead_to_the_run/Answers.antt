@@ -20,13 +20,12 @@ returns-clause-leads c words plant extra at run w s l m rows settles =
     let first = first_tick parts w in
     let n = ticks_in parts w in
     let given = given_by parts (records_for at.request extra) in
-    let are = c.records_stay_in_limits.ensures parts (records_for at.request extra) at.work.plant in
     let laws = c.windows_cut_the_run.ensures in
     let opens = c.windows_are_open.ensures (run_plan parts given first n)
-    (laws.plan parts given first n at.work.plant are inside.0 inside.1 inside.2) in
+    (laws.plan parts (records_for at.request extra) first n at.work.plant inside.0 inside.1 inside.2) in
     c.legal_steps_keep_the_run.ensures.quiet (window_of (run_plan parts given first n)) (map step_in rows) opens settles.legal settles.quiet s
     (subst (λ (n : ℕ). s < n) (sym (streams-counted parts)) m)
-    ∙ laws.run parts given first n s at.work.plant are inside.0 inside.1 inside.2 m
+    ∙ laws.run parts (records_for at.request extra) first n s at.work.plant inside.0 inside.1 inside.2 m
 
 pub returns-clause-listed : goal.returns-clause-listed
 returns-clause-listed c words plant extra at run k w text few l legal =

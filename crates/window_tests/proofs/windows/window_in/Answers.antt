@@ -3,7 +3,6 @@ use Rattle.std.proofs.Common.{◌∙◌, ◌+◌, ◌≤◌, List, None, sym, su
 use Rattle.quant.specs.Interval.{Interval}
 use Rattle.relaxation.specs.Tube.{Tube}
 use Rattle.parts.specs.Parts.{FileParts}
-use Rattle.parts.specs.Given.{given_bands}
 use Rattle.renewal.specs.Plan.{IsPlan}
 use Rattle.window_tests.proofs.windows.window_in.Goals as goal
 
@@ -17,6 +16,5 @@ new-requires c =
     let inside : 0 + n ≤ parts.ticks = omega (arith, ticks, c.if-parts-ticks.false) in
     subst₂ (λ (carried : List (List Interval)) (feeds : List Tube).
     IsPlan (record { parts = parts; first = 0; ticks = n; carried = carried; feeds = feeds }))
-    (law.opening parts (given_bands parts) n ∙ sym c.in_ok-carried.ensures) (sym c.in_ok-feeds.ensures)
-    (law.plan parts (given_bands parts) 0 n plant (c.records_stay_in_limits.ensures parts None plant) (omega arith)
-    (omega arith) inside)
+    (law.opening parts None n ∙ sym c.in_ok-carried.ensures) (sym c.in_ok-feeds.ensures)
+    (law.plan parts None 0 n plant (omega arith) (omega arith) inside)

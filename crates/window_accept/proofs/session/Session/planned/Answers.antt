@@ -25,4 +25,4 @@ returns-in_err-carried g c =
 pub new-requires : goal.new-requires
 new-requires g c = can-be-planned _ c.args.self.now c.next_ticks-ticks.result c.in_ok-carried.carried c.in_ok-tubes.tubes
     _ _ c.self.view_is c.self.invariant c.requires.going c.next_ticks-ticks.ensures
-    c.in_ok-carried.ensures c.in_ok-tubes.ensures.gives c.given_feeds_can_be_planned.ensures
+    c.in_ok-carried.ensures c.in_ok-tubes.ensures.gives c.given_feeds_can_be_planned.ensures.plan
