@@ -2,8 +2,6 @@
 #![tactic(auto)]
 
 #[cfg(test)]
-mod adoptions;
-#[cfg(test)]
 mod boards;
 #[cfg(test)]
 mod carrying;
