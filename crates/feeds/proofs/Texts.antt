@@ -47,10 +47,10 @@ refused-from parts at before (line ∷ lines) =
     refused-on (judged parts at before line) (λ one. read_from parts (at + 1) one.tick (map whole lines ++ cut_off ∷ []))
     (λ one. refused-from parts (at + 1) one.tick lines)
 
-refused-header : (parts : FileParts) (is : Bool) (lines : List (List ℕ)) →
-    (cond is (read_from parts 2 0 (map whole lines ++ cut_off ∷ [])) (refused_by (BadRecord 1))).refusal ≢ None
-refused-header parts true lines = refused-from parts 2 0 lines
-refused-header parts false lines = λ e. absurd (cc e)
+refused-header : (file : FileParts) (is : Bool) (lines : List (List ℕ)) →
+    (cond is (read_from file 2 0 (map whole lines ++ cut_off ∷ [])) (refused_by (BadRecord 1))).refusal ≢ None
+refused-header file true lines = refused-from file 2 0 lines
+refused-header file false lines = λ e. absurd (cc e)
 
 refused-text : (parts : FileParts) (lines : List (List ℕ)) → (read_text parts (map whole lines ++ cut_off ∷ [])).refusal ≢ None
 refused-text parts [] = λ e. absurd (cc e)

@@ -28,10 +28,10 @@ from-turn parts at before (whole line ∷ rest) plant =
     on-turn parts before (judged parts at before line) (λ one. read_from parts (at + 1) one.tick rest)
     (λ one e. judged-fits parts at before line one plant e) (λ one. from-turn parts (at + 1) one.tick rest plant)
 
-header-turn : (parts : FileParts) (is : Bool) (rest : List Entry) → IsPlant parts →
-    AreInTurn parts 0 (cond is (read_from parts 2 0 rest) (refused_by (BadRecord 1))).records
-header-turn parts true rest plant = from-turn parts 2 0 rest plant
-header-turn parts false rest plant = tt
+header-turn : (file : FileParts) (is : Bool) (rest : List Entry) → IsPlant file →
+    AreInTurn file 0 (cond is (read_from file 2 0 rest) (refused_by (BadRecord 1))).records
+header-turn file true rest plant = from-turn file 2 0 rest plant
+header-turn file false rest plant = tt
 
 pub text-turn : (parts : FileParts) (entries : List Entry) → IsPlant parts → AreInTurn parts 0 (read_text parts entries).records
 text-turn parts [] plant = tt

@@ -138,8 +138,8 @@ read_from parts at before (whole line ∷ rest) =
 abbrev pub read_text : FileParts → List Entry → ReadRecords
 read_text parts [] = refused_by (BadRecord 1)
 read_text parts (cut_off ∷ rest) = refused_by (TooLong 1)
-read_text parts (whole line ∷ rest) =
-    if bytes_eq line record_header then read_from parts 2 0 rest else refused_by (BadRecord 1)
+read_text file (whole line ∷ rest) =
+    if bytes_eq line record_header then read_from file 2 0 rest else refused_by (BadRecord 1)
 
 abbrev pub records_in : FileParts → List ℕ → ReadRecords
 records_in parts text = read_text parts (record_entries text)

@@ -73,9 +73,9 @@ from-reads parts at before (whole line ∷ rest) fault e =
 text-reads : (parts : FileParts) (entries : List Entry) → ReadsRecords (read_text parts entries)
 text-reads parts [] = refused-reads (feed.BadRecord 1) tt
 text-reads parts (cut_off ∷ rest) = refused-reads (feed.TooLong 1) tt
-text-reads parts (whole line ∷ rest) =
-    either ReadsRecords (bytes_eq line record_header) (read_from parts 2 0 rest) (refused_by (feed.BadRecord 1))
-    (from-reads parts 2 0 rest) (refused-reads (feed.BadRecord 1) tt)
+text-reads file (whole line ∷ rest) =
+    either ReadsRecords (bytes_eq line record_header) (read_from file 2 0 rest) (refused_by (feed.BadRecord 1))
+    (from-reads file 2 0 rest) (refused-reads (feed.BadRecord 1) tt)
 
 abbrev pub IsOne : Option FeedFault → Type 0
 IsOne refusal = (fault : FeedFault) → refusal ≡ Some fault → IsOfRecord fault

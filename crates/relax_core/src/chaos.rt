@@ -62,7 +62,12 @@ impl Chaos for NoChaos {
         _rt: &R,
         alloc: Global,
         _plan: &WindowPlan<'_>,
-    ) -> Result<Vec<Made>, AllocError> {
+    ) -> Result<Vec<Made>, AllocError>
+        ensures asked { Rose self.old.asked self.new.asked }
+        ensures counted { self.old.asked ≤ self.new.asked }
+        ensures nothing { IfOk result (λ made. made.items ≡ []) }
+        ensures always { OnErr result ⊥ }
+    {
         self.asked = self.asked.saturating_add(1);
         Ok(Vec::new(alloc))
     }
