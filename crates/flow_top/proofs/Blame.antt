@@ -1,5 +1,5 @@
 -- Whom a stop is blamed on, whatever the records say.
-use Rattle.std.proofs.Common.{◌≡◌, ◌∙◌, ◌⊎◌, inl, inr, refl, sym, ap, subst, ℕ, ◌≤◌, List, Option, Result, Ok, Err, IsErrAnd}
+use Rattle.std.proofs.Common.{◌≡◌, ◌∙◌, ◌⊎◌, inl, inr, refl, sym, ap, subst, ℕ, ◌≤◌, List, Option, None, Result, Ok, Err, IsErrAnd}
 use Rattle.flow_edge.specs.Faults.{Rose}
 use Rattle.parts.specs.Parts.{FileParts}
 use Rattle.feeds.specs.declared.reader.FeedFault.{FeedFault}
@@ -8,11 +8,11 @@ use Rattle.window_accept.specs.declared.wide.TooWide.{TooWide}
 use Rattle.report.specs.declared.fault.TopFault.{TopFault}
 use Rattle.report.specs.declared.fault.TopFault.TheVariants as top
 use Rattle.flow_top.specs.declared.words.Command.{Command}
-use Rattle.flow_top.specs.declared.words.Command.TheVariants.{Check}
 use Rattle.flow_top.specs.declared.fault.End.{End}
 use Rattle.flow_top.specs.declared.fault.End.TheVariants.{Stopped, NoMemory}
 use Rattle.flow_top.specs.Faults.{fault_of_feeds, stop_by}
 use Rattle.flow_top.specs.Course.{Course}
+use Rattle.flow_top.specs.Courses.{IsWork}
 use Rattle.flow_top.specs.WindowsCourse.{wide_fault}
 use Rattle.flow_top.specs.Uses.{SourceUse, Sinks}
 use Rattle.flow_top.specs.Ended.{WorkEnded, BrokeOff, BlamedOn, IsBlamed, course_end}
@@ -109,20 +109,22 @@ feeds-blamed command (feed.TooLong at) extra failed sinks = (refl, tt)
 feeds-blamed command feed.ReadFault extra failed sinks = (refl, failed refl)
 feeds-blamed command feed.NoMemory extra failed sinks = tt
 
--- the work of a check
+-- the work of a command whose course nothing stops
 broken-blamed : (command : Command) (course : Course) (extra : SourceUse) (sinks : Sinks) (fault : TopFault) → BrokeOff course sinks fault →
     BlamedOn fault extra sinks
 broken-blamed command course extra sinks fault (ended.output broke trace) = broke.fault
 broken-blamed command course extra sinks fault (ended.trace traced some front trace rose) = rose
 
-pub check-blamed : (parts : FileParts) (records : Option (List ℕ)) (extra : SourceUse) (sinks : Sinks) (ending : Result (Unit {0}) End) →
-    WorkEnded Check parts records extra sinks ending → IsBlamed Check ending extra sinks
-check-blamed parts records extra sinks ending (ended.through course work stood read e) =
-    subst (λ r. IsBlamed Check r extra sinks) (sym (e ∙ ap course_end work.follows.stop)) tt
-check-blamed parts records extra sinks ending (ended.unread course k work stood less rose e) =
-    subst (λ r. IsBlamed Check r extra sinks) (sym e) (refl, rose)
-check-blamed parts records extra sinks ending (ended.broken course fault work some broke e) =
-    subst (λ r. IsBlamed Check r extra sinks) (sym e) (refl, broken-blamed Check course extra sinks fault broke)
-check-blamed parts records extra sinks ending (ended.early o e) = subst (λ r. IsBlamed Check r extra sinks) (sym e) tt
-check-blamed parts records extra sinks ending (ended.within course k work stood less e) =
-    subst (λ r. IsBlamed Check r extra sinks) (sym e) tt
+pub unstopped-blamed : (command : Command) (parts : FileParts) (records : Option (List ℕ)) (extra : SourceUse) (sinks : Sinks)
+    (ending : Result (Unit {0}) End) → ((course : Course) → IsWork command parts records course → course.stop ≡ None) →
+    WorkEnded command parts records extra sinks ending → IsBlamed command ending extra sinks
+unstopped-blamed command parts records extra sinks ending unstopped (ended.through course work stood read e) =
+    subst (λ r. IsBlamed command r extra sinks) (sym (e ∙ ap course_end (unstopped course work))) tt
+unstopped-blamed command parts records extra sinks ending unstopped (ended.unread course k work stood less rose e) =
+    subst (λ r. IsBlamed command r extra sinks) (sym e) (refl, rose)
+unstopped-blamed command parts records extra sinks ending unstopped (ended.broken course fault work some broke e) =
+    subst (λ r. IsBlamed command r extra sinks) (sym e) (refl, broken-blamed command course extra sinks fault broke)
+unstopped-blamed command parts records extra sinks ending unstopped (ended.early o e) =
+    subst (λ r. IsBlamed command r extra sinks) (sym e) tt
+unstopped-blamed command parts records extra sinks ending unstopped (ended.within course k work stood less e) =
+    subst (λ r. IsBlamed command r extra sinks) (sym e) tt

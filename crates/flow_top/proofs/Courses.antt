@@ -14,20 +14,33 @@ use Rattle.feeds.specs.declared.reader.FeedFault.{FeedFault}
 use Rattle.report.specs.declared.fault.TopFault.{TopFault}
 use Rattle.flow_top.specs.Faults.{fault_of_feeds, own_status, status_of, stop_by}
 use Rattle.flow_top.specs.declared.words.Command.{Command}
-use Rattle.flow_top.specs.declared.words.Command.TheVariants.{Run, Direct, Check}
-use Rattle.flow_top.specs.Course.{Traced, Course, written, text_of}
+use Rattle.flow_top.specs.declared.words.Command.TheVariants.{Run, Direct, Check, Demo}
+use Rattle.flow_top.specs.Course.{Traced, Course, WritesOnce, written, text_of}
 use Rattle.flow_top.specs.Courses.{IsCourse, IsWork}
 use Rattle.flow_top.specs.WindowsCourse.{bands_by, window_rows, traced_in, first_tick, ticks_in, end_of, wide_fault, IsAccepted, StopsAfter, all, refused, wide, WritesWindows}
-use Rattle.flow_top.specs.CheckCourse.{IsCheckCourse}
+use Rattle.demo.specs.Summary.{summary}
 use Rattle.report.specs.Ranks.{rank_rows}
 use Rattle.flow_top.proofs.Refusals.{feed-stops, record-refused}
 
+-- a header and rows as one window
+abbrev pub once : List ℕ → List ℕ → Course
+once header rows = record { header = header; windows = 1; rows = λ w. rows; trace = None; stop = None }
+
+writes-once : (header rows : List ℕ) → WritesOnce header rows (once header rows)
+writes-once header rows = record { header_is = refl; windows = refl; rows_are = refl; trace = refl; stop = refl }
+
 abbrev pub check_course : FileParts → Course
-check_course parts =
-    record { header = rank_header; windows = 1; rows = λ w. rank_rows parts; trace = None; stop = None }
+check_course parts = once rank_header (rank_rows parts)
 
 pub check-work : (parts : FileParts) (records : Option (List ℕ)) → IsPlant parts → IsWork Check parts records (check_course parts)
-check-work parts records plant = record { plant = plant; follows = record { header = refl; windows = refl; rows = refl; trace = refl; stop = refl } }
+check-work parts records plant = record { plant = plant; follows = writes-once rank_header (rank_rows parts) }
+
+abbrev pub demo_course : ℕ → Course
+demo_course stages = once [] (summary stages)
+
+pub demo-work : (stages : ℕ) (parts : FileParts) (records : Option (List ℕ)) → IsPlant parts →
+    IsWork (Demo stages) parts records (demo_course stages)
+demo-work stages parts records plant = record { plant = plant; follows = writes-once [] (summary stages) }
 
 -- a header is not empty
 pub run-header : header ≢ []
@@ -41,6 +54,10 @@ check-header e = cc e
 pub check-writes : (rows : List ℕ) → rank_header ++ rows ≢ []
 unfolding rank_header
 check-writes rows e = cc e
+
+pub summary-written : (stages : ℕ) → summary stages ≢ []
+unfolding summary
+summary-written stages e = cc e
 
 -- what begins with a text that is not empty is not empty
 longer : (text rest : List ℕ) → text ≢ [] → text ++ rest ≢ []
@@ -57,6 +74,7 @@ unfolding status_of own_status
 wide_status Run parts place = refl
 wide_status Direct parts place = refl
 wide_status Check parts place = refl
+wide_status (Demo stages) parts place = refl
 
 wide_stops : (one other : Command) (parts : FileParts) (place : TooWide) →
     stop_by one (wide_fault parts place) ≡ stop_by other (wide_fault parts place)
@@ -182,12 +200,13 @@ windows-agree unique one other first second parts records a b r s =
 only-zero : (w n : ℕ) → w < n → n ≡ 1 → w ≡ 0
 only-zero w n h e = omega arith
 
-check-agrees : (parts : FileParts) (a b : Course) → IsCheckCourse parts a → IsCheckCourse parts b → Agree a b
-check-agrees parts a b r s =
+once-agrees : (header rows : List ℕ) (a b : Course) → WritesOnce header rows a → WritesOnce header rows b → Agree a b
+once-agrees header rows a b r s =
     record {
       windows = r.windows ∙ sym s.windows;
-      text = written-agree a b (r.header ∙ sym s.header) a.windows
-          (λ w h. ap a.rows (only-zero w a.windows h r.windows) ∙ r.rows ∙ sym s.rows ∙ sym (ap b.rows (only-zero w a.windows h r.windows)));
+      text = written-agree a b (r.header_is ∙ sym s.header_is) a.windows
+          (λ w h. ap a.rows (only-zero w a.windows h r.windows) ∙ r.rows_are ∙ sym s.rows_are
+          ∙ sym (ap b.rows (only-zero w a.windows h r.windows)));
       stop = r.stop ∙ sym s.stop;
     }
 
@@ -196,13 +215,15 @@ pub work-agrees : AreOne → (command : Command) (parts : FileParts) (records : 
 work-agrees unique Run parts records a b r s =
     windows-agree unique Run Run (Some (traced_in parts records)) (Some (traced_in parts records)) parts records a b r s
 work-agrees unique Direct parts records a b r s = windows-agree unique Direct Direct None None parts records a b r s
-work-agrees unique Check parts records a b r s = check-agrees parts a b r s
+work-agrees unique Check parts records a b r s = once-agrees rank_header (rank_rows parts) a b r s
+work-agrees unique (Demo stages) parts records a b r s = once-agrees [] (summary stages) a b r s
 
 pub traces-agree : (command : Command) (parts : FileParts) (records : Option (List ℕ)) (a b : Course) →
     IsCourse command parts records a → IsCourse command parts records b → a.trace ≡ b.trace
 traces-agree Run parts records a b r s = r.trace ∙ sym s.trace
 traces-agree Direct parts records a b r s = r.trace ∙ sym s.trace
 traces-agree Check parts records a b r s = r.trace ∙ sym s.trace
+traces-agree (Demo stages) parts records a b r s = r.trace ∙ sym s.trace
 
 -- a window takes a record that is refused, by this stop
 pub record StopsByRecord (command : Command) (parts : FileParts) (records : Option (List ℕ)) (w : ℕ) (stop : Stop) : Type 0 where
@@ -245,6 +266,7 @@ pub course-stops : (command : Command) (parts : FileParts) (records : Option (Li
 course-stops Run parts records course stop r e = stops-by Run parts records course.windows course.stop stop r.stop e
 course-stops Direct parts records course stop r e = stops-by Direct parts records course.windows course.stop stop r.stop e
 course-stops Check parts records course stop r e = absurd (cc (r.stop, e))
+course-stops (Demo stages) parts records course stop r e = absurd (cc (r.stop, e))
 
 -- the windows are looked through one after another, of which there are no more than ticks
 abbrev pub AreFound : Type 0
@@ -336,8 +358,9 @@ work-exists find Run parts records plant =
 work-exists find Direct parts records plant =
     let c = windows-exist find Direct None parts records plant in (c.0, record { plant = plant; follows = c.1 })
 work-exists find Check parts records plant = (check_course parts, check-work parts records plant)
+work-exists find (Demo stages) parts records plant = (demo_course stages, demo-work stages parts records plant)
 
--- what a check prints
-pub check-printed : (parts : FileParts) (course : Course) → IsCheckCourse parts course → text_of course ≡ rank_header ++ rank_rows parts
-check-printed parts course is =
-    ap (written course) is.windows ∙ ap (λ text. text ++ course.rows 0) is.header ∙ ap (λ rows. rank_header ++ rows) is.rows
+-- what is printed as one window
+pub once-printed : (header rows : List ℕ) (course : Course) → WritesOnce header rows course → text_of course ≡ header ++ rows
+once-printed header rows course is =
+    ap (written course) is.windows ∙ ap (λ text. text ++ course.rows 0) is.header_is ∙ ap (λ rows. header ++ rows) is.rows_are

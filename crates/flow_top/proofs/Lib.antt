@@ -9,7 +9,11 @@ pub mod Work
 pub mod Blame
 pub mod Requests
 pub mod Written
+pub mod Statuses
+pub mod Ends
+pub mod AtWork
 pub mod Causes
+pub mod Only
 pub mod PlantRows
 pub mod Channels
 pub mod RunRows

@@ -11,7 +11,7 @@ use Rattle.feeds.specs.Given.{refusal_by}
 use Rattle.report.specs.declared.fault.TopFault.{TopFault}
 use Rattle.report.specs.declared.fault.TopFault.TheVariants as top
 use Rattle.flow_top.specs.declared.words.Command.{Command}
-use Rattle.flow_top.specs.declared.words.Command.TheVariants.{Run, Direct, Check}
+use Rattle.flow_top.specs.declared.words.Command.TheVariants.{Run, Direct, Check, Demo}
 use Rattle.flow_top.specs.Faults.{fault_of_feeds, own_status, status_of, stop_by}
 
 -- a fault of a record
@@ -122,6 +122,7 @@ unfolding status_of
 feed-status Run found fault e = refl
 feed-status Direct found fault e = refl
 feed-status Check found fault e = other-status found fault e
+feed-status (Demo stages) found fault e = refl
 
 pub feed-stops : (one other : Command) (found : FeedFault) (fault : TopFault) → fault_of_feeds found ≡ Some fault →
     stop_by one fault ≡ stop_by other fault

@@ -1,18 +1,22 @@
 -- How the work of a request on a plant ends, by whether it asks for records.
-use Rattle.std.proofs.Common.{◌≡◌, ◌∙◌, inl, inr, sym, ap, subst, ℕ, List, Option, Some, None, Result, arith}
+use Rattle.std.proofs.Common.{◌≡◌, ◌∙◌, inl, inr, refl, sym, ap, subst, ℕ, false, List, Option, Some, None, Result, arith}
 use Rattle.flow_edge.specs.Faults.{Rose}
 use Rattle.parts.specs.Parts.{FileParts}
 use Rattle.feeds.specs.ReaderOf.{ReaderOf}
 use Rattle.feeds.specs.Standing.{Stands}
 use Rattle.flow_top.specs.declared.words.Command.{Command}
-use Rattle.flow_top.specs.declared.words.Command.TheVariants.{Check}
 use Rattle.flow_top.specs.declared.words.Request.{Request}
 use Rattle.flow_top.specs.declared.fault.End.{End}
+use Rattle.flow_top.specs.Words.{reads_records}
+use Rattle.flow_top.specs.Course.{Course}
+use Rattle.flow_top.specs.Courses.{IsWork}
 use Rattle.flow_top.specs.Uses.{SourceUse, Sinks, IsUntouched}
-use Rattle.flow_top.specs.Ended.{WorkEnded, AreTold, records_of, records_for, IsBlamed}
+use Rattle.flow_top.specs.Ended.{HasParts, WorkEnded, CommandEnded, AreTold, records_of, records_for, IsBlamed}
+use Rattle.plant_gen.specs.Generated.{generated_parts}
+use Rattle.flow_top.specs.declared.words.Command.TheVariants.{Demo}
 use Rattle.flow_top.specs.Ended as ended
 use Rattle.flow_top.specs.Steps.{IsAsked, RequestEnded}
-use Rattle.flow_top.proofs.Blame.{result-more, check-blamed}
+use Rattle.flow_top.proofs.Blame.{result-more, unstopped-blamed}
 
 -- a reader over a source that tells its text stands in this
 pub stands-over : (one parts : FileParts) (reader : ReaderOf) (left : Option (List ℕ)) (text : List ℕ) (faults : ℕ) → one ≡ parts →
@@ -67,15 +71,29 @@ unrecorded request parts none extra sinks ending asks unfailed untouched work bl
 pub unfailed : Rose 0 0 → ⊥
 unfailed r = omega (arith, r)
 
--- a check has none
-pub checked : (request : Request) (parts : FileParts) (extra : SourceUse) (sinks : Sinks) (ending : Result (Unit {0}) End) →
-    request.command ≡ Check → IsAsked request → IsUntouched extra → WorkEnded Check parts None extra sinks ending →
+-- a command that reads no records has none
+pub unread-of : (request : Request) (command : Command) (parts : FileParts) (extra : SourceUse) (sinks : Sinks)
+    (ending : Result (Unit {0}) End) → request.command ≡ command → reads_records command ≡ false → IsAsked request → IsUntouched extra →
+    ((course : Course) → IsWork command parts None course → course.stop ≡ None) → WorkEnded command parts None extra sinks ending →
     RequestEnded request parts extra sinks ending
-checked request parts extra sinks ending check asked untouched work = record {
-  worked = λ told.
-      subst (λ command. WorkEnded command parts (records_for request extra) extra sinks ending) (sym check)
-      (subst (λ records. WorkEnded Check parts records extra sinks ending)
-      (sym (ap (λ feeds. records_of feeds extra.text) (asked check))) work);
-  blamed = subst (λ command. IsBlamed command ending extra sinks) (sym check) (check-blamed parts None extra sinks ending work);
-  unasked = λ _. untouched;
-}
+unread-of request command parts extra sinks ending is reads asked untouched unstopped work =
+    let none = asked.unread (ap reads_records is ∙ reads) in record {
+      worked = λ told.
+          subst (λ command. WorkEnded command parts (records_for request extra) extra sinks ending) (sym is)
+          (subst (λ records. WorkEnded command parts records extra sinks ending)
+          (sym (ap (λ feeds. records_of feeds extra.text) none)) work);
+      blamed = subst (λ command. IsBlamed command ending extra sinks) (sym is)
+          (unstopped-blamed command parts None extra sinks ending unstopped work);
+      unasked = λ _. untouched;
+    }
+
+-- `demo` has its plant without a source
+pub generated : (request : Request) (stages : ℕ) (plant extra : SourceUse) (sinks : Sinks) (ending : Result (Unit {0}) End) →
+    request.command ≡ Demo stages → IsAsked request → IsUntouched plant → IsUntouched extra →
+    WorkEnded (Demo stages) (generated_parts stages) None extra sinks ending → CommandEnded request plant extra sinks ending
+generated request stages plant extra sinks ending is asked unread still work =
+    let ends = unread-of request (Demo stages) (generated_parts stages) extra sinks ending is refl asked still
+    (λ course done. done.follows.stop) work in
+    ended.worked (generated_parts stages)
+    (subst (λ command. HasParts command plant (generated_parts stages)) (sym is) (refl, unread))
+    ends.worked ends.blamed ends.unasked

@@ -7,7 +7,7 @@ use Rattle.tables.specs.Output.{Label, header, rows_of, tick_rows}
 use Rattle.flow_top.specs.Course.{Traced, Course, written, text_of}
 use Rattle.report.specs.Output.{labels_of}
 use Rattle.flow_top.specs.declared.words.Command.{Command}
-use Rattle.flow_top.specs.declared.words.Command.TheVariants.{Run, Direct, Check}
+use Rattle.flow_top.specs.declared.words.Command.TheVariants.{Run, Direct, Check, Demo}
 use Rattle.flow_top.specs.declared.fault.Stop.{Stop}
 use Rattle.flow_top.specs.Courses.{IsCourse, WritesRun}
 use Rattle.plant.specs.Sound.{IsPlant}
@@ -88,12 +88,14 @@ pub work-windows : (command : Command) (parts : FileParts) (records : Option (Li
 work-windows Run parts records course w is k h = first-windows Run (Some (traced_in parts records)) parts records course is k h
 work-windows Direct parts records course w is k h = first-windows Direct None parts records course is k h
 work-windows Check parts records course w is k h = absurd w
+work-windows (Demo stages) parts records course w is k h = absurd w
 
 pub work-text : (command : Command) (parts : FileParts) (records : Option (List ℕ)) (course : Course) → WritesRun command →
     IsCourse command parts records course → course.stop ≡ None → text_of course ≡ header ++ all_rows parts records
 work-text Run parts records course w is e = runs-text Run (Some (traced_in parts records)) parts records course is e
 work-text Direct parts records course w is e = runs-text Direct None parts records course is e
 work-text Check parts records course w is e = absurd w
+work-text (Demo stages) parts records course w is e = absurd w
 
 -- a window that is there has ticks of the plant's, few of them
 inside_of : (first window ticks : ℕ) → 1 ≤ window → window ≤ 64 → first < ticks →

@@ -5,7 +5,7 @@ use Rattle.feeds.specs.Given.{refusal_by}
 use Rattle.window_accept.specs.declared.wide.TooWide.{TooWide}
 use Rattle.window_accept.specs.Wide.{IsTooWide, IsSooner, AreNarrowEnough, IsFirstWide}
 use Rattle.flow_top.specs.declared.words.Command.{Command}
-use Rattle.flow_top.specs.declared.words.Command.TheVariants.{Run, Direct, Check}
+use Rattle.flow_top.specs.declared.words.Command.TheVariants.{Run, Direct, Check, Demo}
 use Rattle.flow_top.specs.declared.fault.Stop.{Stop}
 use Rattle.flow_top.specs.Course.{Course}
 use Rattle.flow_top.specs.Courses.{IsCourse, WritesRun}
@@ -104,6 +104,7 @@ run-narrow Run parts records course writes is whole =
 run-narrow Direct parts records course writes is whole =
     all-narrow parts records course.windows is.accepted (counted Direct parts records course.windows course.stop is.stop whole)
 run-narrow Check parts records course writes is whole = absurd writes
+run-narrow (Demo stages) parts records course writes is whole = absurd writes
 
 pub run-first : (command : Command) (parts : FileParts) (records : Option (List ℕ)) (course : Course) (stop : Stop) →
     IsCourse command parts records course → course.stop ≡ Some stop → (place : TooWide) →
@@ -112,9 +113,11 @@ pub run-first : (command : Command) (parts : FileParts) (records : Option (List 
 run-first Run parts records course stop is e place first = first-of-run parts records course.windows is.accepted place first
 run-first Direct parts records course stop is e place first = first-of-run parts records course.windows is.accepted place first
 run-first Check parts records course stop is e place first = absurd (cc (is.stop, e))
+run-first (Demo stages) parts records course stop is e place first = absurd (cc (is.stop, e))
 
 pub run-taken : (command : Command) (parts : FileParts) (records : Option (List ℕ)) (course : Course) → WritesRun command →
     IsCourse command parts records course → (w : ℕ) → w < course.windows → refusal_by parts records (end_of parts w) ≡ None
 run-taken Run parts records course writes is w h = (is.accepted w h).taken
 run-taken Direct parts records course writes is w h = (is.accepted w h).taken
 run-taken Check parts records course writes is w h = absurd writes
+run-taken (Demo stages) parts records course writes is w h = absurd writes

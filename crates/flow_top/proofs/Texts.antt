@@ -25,7 +25,7 @@ use Rattle.window_accept.specs.Session as session
 use Rattle.flow_top.specs.declared.fault.End.{End}
 use Rattle.flow_top.specs.declared.fault.End.TheVariants.{Stopped, NoMemory}
 use Rattle.flow_top.specs.declared.words.Command.{Command}
-use Rattle.flow_top.specs.declared.words.Command.TheVariants.{Run, Direct, Check}
+use Rattle.flow_top.specs.declared.words.Command.TheVariants.{Run, Direct, Check, Demo}
 use Rattle.flow_top.specs.declared.windows.Texts.{Texts}
 use Rattle.flow_top.specs.Words.{writes_trace}
 use Rattle.flow_top.specs.Faults.{fault_of_feeds, stop_by}
@@ -126,6 +126,7 @@ pub same-kind : (command : Command) (relaxes : Bool) → WritesBy command relaxe
 same-kind Run relaxes w = w
 same-kind Direct relaxes w = w
 same-kind Check relaxes w = absurd w
+same-kind (Demo stages) relaxes w = absurd w
 
 -- a channel for which a width is asked has a name
 past-none : (asked : List (Option ℤ)) (c : ℕ) → length asked ≤ c → slice_index_or asked c None ≡ None

@@ -4,16 +4,17 @@ use Rattle.std.proofs.Common.{Result, Ok, Err, IsErrAnd, arith}
 use Rattle.flow_edge.specs.Sink.{Gives, GivesFront}
 use Rattle.parts.specs.Parts.{FileParts}
 use Rattle.flow_top.specs.declared.words.Command.{Command}
+use Rattle.flow_top.specs.declared.words.Command.TheVariants.{Run, Direct, Check, Demo}
 use Rattle.flow_top.specs.declared.words.Request.{Request}
 use Rattle.flow_top.specs.declared.fault.End.{End}
 use Rattle.flow_top.specs.declared.fault.End.TheVariants.{Stopped, NoMemory}
 use Rattle.report.specs.declared.fault.TopFault.TheVariants.{WriteOut}
 use Rattle.flow_top.specs.Course.{Course, text_of}
-use Rattle.flow_top.specs.Courses.{IsWork}
+use Rattle.flow_top.specs.Courses.{ReadsPlant, IsWork}
 use Rattle.flow_top.specs.Uses.{SourceUse, SinkUse, Sinks, IsUntouched, IsUnwritten, AreUnwritten}
-use Rattle.flow_top.specs.Ended.{TraceStood, TraceFront, output, WorkEnded, through, broken, within, course_end, CommandEnded, refused, failed, starved}
+use Rattle.flow_top.specs.Ended.{TraceStood, TraceFront, output, SaysParts, HasParts, WorkEnded, through, broken, within, course_end, CommandEnded, refused, failed, starved}
 use Rattle.flow_top.specs.Steps.{PieceEnded, PlantEnded, refusal, failure}
-use Rattle.flow_top.proofs.Writes.{front-longer, front-after, both-given, rose-later}
+use Rattle.flow_top.proofs.Writes.{front-longer, front-after, both-given, rose-later, given-none}
 
 -- an error that is this end
 pub this-end : (r : Result (Unit {0}) End) (end : End) → IsErrAnd r (λ e. e ≡ end) → r ≡ Err end
@@ -78,11 +79,29 @@ module _ (command : Command) (parts : FileParts) (course : Course) (header rows 
       (ap (λ s. Err (Stopped s)) e.1)
   second-ended had mid has before between now (Err NoMemory) text some whole first counted e = absurd e
 
+-- where all is one window that has no header, and its rows are written or not
+pub only-ended : (command : Command) (parts : FileParts) (course : Course) (rows : List ℕ) (extra : SourceUse) (out trace : SinkUse)
+    (result : Result (Unit {0}) End) → IsWork command parts None course → course.trace ≡ None → IsUnwritten trace →
+    text_of course ≡ rows → rows ≢ [] → course.stop ≡ None → PieceEnded command WriteOut result out rows →
+    WorkEnded command parts None extra (record { out = out; trace = trace }) result
+only-ended command parts course rows extra out trace result work untraced still text some whole e =
+    second-ended command parts course [] rows extra trace work untraced still out.had out.had out.has out.before out.before out.now result
+    text some whole (given-none out.had) (omega arith) e
+
+-- parts that a text says are those of a command that reads a plant
+pub read-parts : (command : Command) (plant : SourceUse) (parts : FileParts) → ReadsPlant command → SaysParts plant parts →
+    HasParts command plant parts
+read-parts Run plant parts reads says = says
+read-parts Direct plant parts reads says = says
+read-parts Check plant parts reads says = says
+read-parts (Demo stages) plant parts reads says = absurd reads
+
 -- a command that ends without a plant
-pub plantless-ended : (request : Request) (end : End) (plant extra : SourceUse) (sinks : Sinks) → IsUntouched extra → AreUnwritten sinks →
+pub plantless-ended : (request : Request) (end : End) (plant extra : SourceUse) (sinks : Sinks) → ReadsPlant request.command →
+    IsUntouched extra → AreUnwritten sinks →
     PlantEnded request.command (Err end) plant → CommandEnded request plant extra sinks (Err end)
-plantless-ended request (Stopped stop) plant extra sinks unread still (refusal fault r e) =
-    refused fault r unread still (ap (λ s. Err (Stopped s)) e)
-plantless-ended request (Stopped stop) plant extra sinks unread still (failure rose e) =
-    failed rose unread still (ap (λ s. Err (Stopped s)) e)
-plantless-ended request NoMemory plant extra sinks unread still h = starved unread still refl
+plantless-ended request (Stopped stop) plant extra sinks reads unread still (refusal fault r e) =
+    refused fault reads r unread still (ap (λ s. Err (Stopped s)) e)
+plantless-ended request (Stopped stop) plant extra sinks reads unread still (failure rose e) =
+    failed reads rose unread still (ap (λ s. Err (Stopped s)) e)
+plantless-ended request NoMemory plant extra sinks reads unread still h = starved reads unread still refl

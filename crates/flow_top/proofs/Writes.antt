@@ -67,3 +67,8 @@ pub front-none : (sink : SinkUse) (text : List ℕ) → IsUnwritten sink → Giv
 front-none sink text still =
     subst (λ has. GivesFront sink.had has text) (sym still.text)
     (front-longer sink.had sink.had [] text (front-whole sink.had sink.had [] (nothing-given sink.had)))
+
+-- nothing was given
+pub given-none : (had : Option (List ℕ)) → Gives had had []
+given-none None = record { told = tt; untold = λ e. e }
+given-none (Some text) = record { told = ap Some (sym (append-nil text)); untold = λ e. e }

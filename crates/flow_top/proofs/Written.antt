@@ -9,7 +9,7 @@ use Rattle.feeds.specs.ReaderOf.{ReaderOf, Feeding}
 use Rattle.feeds.specs.Standing.{Stands}
 use Rattle.window_accept.specs.Session.{SessionOf, IsSession, opening_session, FollowsRun, IsAlong}
 use Rattle.flow_top.specs.declared.words.Command.{Command}
-use Rattle.flow_top.specs.declared.words.Command.TheVariants.{Run, Direct, Check}
+use Rattle.flow_top.specs.declared.words.Command.TheVariants.{Run, Direct, Check, Demo}
 use Rattle.flow_top.specs.declared.fault.Stop.{Stop}
 use Rattle.flow_top.specs.declared.fault.End.{End}
 use Rattle.flow_top.specs.declared.fault.End.TheVariants.{Stopped, NoMemory}
@@ -38,6 +38,7 @@ header-same : (command : Command) (relaxes : Bool) (parts : FileParts) (records 
 header-same Run relaxes parts records w = subst (λ r. header_of_steps Run ≡ header_for (trace_for r parts records)) (sym w) refl
 header-same Direct relaxes parts records w = subst (λ r. header_of_steps Direct ≡ header_for (trace_for r parts records)) (sym w) refl
 header-same Check relaxes parts records w = absurd w
+header-same (Demo stages) relaxes parts records w = absurd w
 
 -- such a command writes windows
 as-course : (command : Command) (relaxes : Bool) (parts : FileParts) (records : Option (List ℕ)) (course : Course) →
@@ -48,6 +49,7 @@ as-course Run relaxes parts records course w is =
 as-course Direct relaxes parts records course w is =
     subst (λ r. WritesWindows Direct (trace_for r parts records) parts records course) w is
 as-course Check relaxes parts records course w is = absurd w
+as-course (Demo stages) relaxes parts records course w is = absurd w
 
 -- the text of a window's steps
 as-steps : (relaxes : Bool) (parts : FileParts) (records : Option (List ℕ)) (k : ℕ) (steps : Option (List ℕ)) →

@@ -1,44 +1,58 @@
 -- The cause of each status.
-use Rattle.std.specs.Prelude.{◌≡◌, ◌⊎◌, ℕ, ◌<◌, ◌≤◌, List, [], Option, Some, None, IfSome, Ok, Err}
+use Rattle.std.specs.Prelude.{◌≡◌, ◌⊎◌, ℕ, ◌<◌, ◌≤◌, List, Option, Some, None, IfSome, Ok, Err}
 use Rattle.flow_edge.specs.Faults.{Rose}
 use Rattle.flow_edge.specs.declared.status.Status.{Status}
 use Rattle.flow_edge.specs.declared.status.Status.TheVariants as status
 use Rattle.parts.specs.Parts.{FileParts}
+use Rattle.plant_gen.specs.Generated.{generated_parts}
 use Rattle.flow_top.specs.declared.words.Command.{Command}
+use Rattle.flow_top.specs.declared.words.Command.TheVariants.{Run, Direct, Check, Demo}
 use Rattle.flow_top.specs.declared.fault.Stop.{Stop}
 use Rattle.report.specs.declared.fault.TopFault.{TopFault}
 use Rattle.report.specs.declared.fault.TopFault.TheVariants.{Words, ReadPlant, ReadExtra, WriteOut, WriteTrace}
 use Rattle.flow_top.specs.declared.words.Request.{Request}
 use Rattle.flow_top.specs.Words.{request_in}
 use Rattle.flow_top.specs.Faults.{status_of, stop_by}
-use Rattle.flow_top.specs.Judged.{IsJudged}
+use Rattle.flow_top.specs.Judged.{Judgement, IsJudged}
 use Rattle.flow_top.specs.Course.{Course, written, text_of}
-use Rattle.flow_top.specs.Courses.{IsWork}
+use Rattle.flow_top.specs.Courses.{ReadsPlant, IsWork}
 use Rattle.report.specs.Lines.{fault_line, memory_line}
 use Rattle.flow_top.specs.Uses.{SourceUse, SinkUse, Sinks, IsUntouched, IsUnwritten, AreUnwritten, WasGiven, Broke}
-use Rattle.flow_top.specs.Ended.{TraceStood, BrokeOff, AreTold, records_for, IsReadUp}
+use Rattle.flow_top.specs.Ended.{TraceStood, BrokeOff, AreTold, records_for, IsReadUp, HasParts}
 
--- How a command ends on a text, and with a text of records where one is given, where no device fails and memory is there: by a refusal
--- of the text; or as its course on the plant that the text says, at its stop where it has one.
-pub data IsEndOn (command : Command) (text : List ℕ) (records : Option (List ℕ)) (end : Option Stop) : Type 0 where
-  refusal : (fault : TopFault) → IsJudged text (Err fault) → end ≡ Some (stop_by command fault) → IsEndOn command text records end
-  course : (parts : FileParts) (course : Course) → IsJudged text (Ok parts) → IsWork command parts records course →
+-- a text has this judgement, where it is told
+abbrev pub TellsJudged : Option (List ℕ) → Judgement → Type 0
+TellsJudged None judgement = ⊥
+TellsJudged (Some text) judgement = IsJudged text judgement
+
+-- what a command's plant is by the text of its source: the judgement of the text; or the generated plant, whatever the text
+abbrev pub IsGiven : Command → Option (List ℕ) → Judgement → Type 0
+IsGiven Run text judgement = TellsJudged text judgement
+IsGiven Direct text judgement = TellsJudged text judgement
+IsGiven Check text judgement = TellsJudged text judgement
+IsGiven (Demo stages) text judgement = judgement ≡ Ok (generated_parts stages)
+
+-- How a command ends where its plant source has this text, and with a text of records where one is given, where no device fails and
+-- memory is there: by a refusal of the text; or as its course on its plant, at its stop where it has one.
+pub data IsEndOn (command : Command) (text records : Option (List ℕ)) (end : Option Stop) : Type 0 where
+  refusal : (fault : TopFault) → IsGiven command text (Err fault) → end ≡ Some (stop_by command fault) → IsEndOn command text records end
+  course : (parts : FileParts) (course : Course) → IsGiven command text (Ok parts) → IsWork command parts records course →
       end ≡ course.stop → IsEndOn command text records end
 
 -- where the words ask for records, their source tells its text
 abbrev pub TellsRecords : List (List ℕ) → SourceUse → Type 0
 TellsRecords words extra = (request : Request) → request_in words ≡ Ok request → AreTold request extra
 
--- The words are a request; the plant source was read to its end, and its text says a plant; and this is the command's course on it, with
--- the records that the words ask for.
+-- The words are a request; the command has its plant, from the text of the plant source, which was read to its end, or generated; and
+-- this is the command's course on it, with the records that the words ask for. Their source is untouched where they ask for none.
 pub record IsAtWork (words : List (List ℕ)) (plant extra : SourceUse) : Type 0 where
   pub request : Request
   pub parts : FileParts
   pub course : Course
   pub asked : request_in words ≡ Ok request
-  pub says : IfSome plant.text (λ bytes. IsJudged bytes (Ok parts))
-  pub read : IfSome plant.text (λ _. plant.left ≡ Some [])
+  pub has : HasParts request.command plant parts
   pub work : IsWork request.command parts (records_for request extra) course
+  pub unasked : request.feeds ≡ None → IsUntouched extra
 
 -- the whole text of a course that nothing stops was given, and a legal trace of it, and the records were read to their end
 pub record WroteAll (words : List (List ℕ)) (plant extra : SourceUse) (sinks : Sinks) : Type 0 where
@@ -63,12 +77,13 @@ pub record WroteFront (fault : TopFault) (words : List (List ℕ)) (plant extra 
   pub at : IsAtWork words plant extra
   pub broke : BrokeOff at.course sinks fault
 
--- the words are a command, and the text of the plant source is refused by this fault, which the command gives this status; its line
+-- the words are a command that reads a plant, and the text of the plant source is refused by this fault, which the command gives this status; its line
 -- was given, no record was read, and nothing is in the output or the trace
 pub record SaysRefusal (own : Status) (words : List (List ℕ)) (plant extra : SourceUse) (sinks : Sinks) (err : SinkUse) : Type 0 where
   pub request : Request
   pub fault : TopFault
   pub asked : request_in words ≡ Ok request
+  pub reads : ReadsPlant request.command
   pub refused : IfSome plant.text (λ bytes. IsJudged bytes (Err fault))
   pub status : status_of request.command fault ≡ own
   pub line : WasGiven err (fault_line fault)

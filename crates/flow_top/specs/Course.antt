@@ -1,6 +1,6 @@
 -- A course: what a command does on a plant. It writes a header and then the rows of one window after another, up to its stop, and
 -- beside them, where it relaxes, a trace of the steps.
-use Rattle.std.specs.Prelude.{ℕ, zero, suc, ◌++◌, List, Option}
+use Rattle.std.specs.Prelude.{◌≡◌, ℕ, zero, suc, ◌++◌, List, Option, None}
 use Rattle.relaxation.specs.Window.{Window}
 use Rattle.flow_top.specs.declared.fault.Stop.{Stop}
 
@@ -18,6 +18,14 @@ pub record Course : Type 0 where
   pub trace : Option Traced
   -- the fault that ends it after these windows, with its status; or none, where the windows are all
   pub stop : Option Stop
+
+-- all rows are one window, which nothing stops, and there is no trace
+pub record WritesOnce (header rows : List ℕ) (course : Course) : Type 0 where
+  pub header_is : course.header ≡ header
+  pub windows : course.windows ≡ 1
+  pub rows_are : course.rows 0 ≡ rows
+  pub trace : course.trace ≡ None
+  pub stop : course.stop ≡ None
 
 -- the header and the rows of the first k windows
 abbrev pub written : Course → ℕ → List ℕ

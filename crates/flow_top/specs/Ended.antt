@@ -5,6 +5,7 @@ use Rattle.flow_edge.specs.Sink.{GivesFront}
 use Rattle.flow_edge.specs.declared.status.Status.TheVariants as status
 use Rattle.parts.specs.Parts.{FileParts}
 use Rattle.flow_top.specs.declared.words.Command.{Command}
+use Rattle.flow_top.specs.declared.words.Command.TheVariants.{Run, Direct, Check, Demo}
 use Rattle.flow_top.specs.declared.fault.Stop.{Stop}
 use Rattle.flow_top.specs.declared.fault.End.{End}
 use Rattle.flow_top.specs.declared.fault.End.TheVariants.{Stopped, NoMemory}
@@ -16,13 +17,21 @@ use Rattle.flow_top.specs.Faults.{IsTextFault, stop_by}
 use Rattle.flow_top.specs.Judged.{IsJudged}
 use Rattle.report.specs.Trace.{IsTrace}
 use Rattle.flow_top.specs.Course.{Traced, Course, written, text_of}
-use Rattle.flow_top.specs.Courses.{IsWork}
+use Rattle.flow_top.specs.Courses.{ReadsPlant, IsWork}
+use Rattle.plant_gen.specs.Generated.{generated_parts}
 use Rattle.flow_top.specs.Uses.{SourceUse, SinkUse, Sinks, IsUntouched, IsUnwritten, AreUnwritten, WasGiven, Broke}
 
 -- the plant source was read to its end, and its text says these parts
 pub record SaysParts (plant : SourceUse) (parts : FileParts) : Type 0 where
   pub text : IfSome plant.text (λ bytes. IsJudged bytes (Ok parts))
   pub whole : IfSome plant.text (λ _. plant.left ≡ Some [])
+
+-- the parts of a command's plant: those that the text of the plant source says; or the generated ones, and no text is read
+abbrev pub HasParts : Command → SourceUse → FileParts → Type 0
+HasParts Run plant parts = SaysParts plant parts
+HasParts Direct plant parts = SaysParts plant parts
+HasParts Check plant parts = SaysParts plant parts
+HasParts (Demo stages) plant parts = (parts ≡ generated_parts stages) × IsUntouched plant
 
 -- its text is refused
 pub record IsRefused (plant : SourceUse) (fault : TopFault) : Type 0 where
@@ -124,12 +133,12 @@ IsBlamed command (Err (Stopped stop)) extra sinks = (stop ≡ stop_by command st
 -- How a command ends: without a plant, and then nothing was written, and no record read; or as its work on the plant does, which is told
 -- where the records are. Their source is untouched where none are asked for.
 pub data CommandEnded (request : Request) (plant extra : SourceUse) (sinks : Sinks) (ending : Result (Unit {0}) End) : Type 0 where
-  refused : (fault : TopFault) → IsRefused plant fault → IsUntouched extra → AreUnwritten sinks →
+  refused : (fault : TopFault) → ReadsPlant request.command → IsRefused plant fault → IsUntouched extra → AreUnwritten sinks →
       ending ≡ Err (Stopped (stop_by request.command fault)) → CommandEnded request plant extra sinks ending
-  failed : Rose plant.before plant.now → IsUntouched extra → AreUnwritten sinks →
+  failed : ReadsPlant request.command → Rose plant.before plant.now → IsUntouched extra → AreUnwritten sinks →
       ending ≡ Err (Stopped (stop_by request.command ReadPlant)) → CommandEnded request plant extra sinks ending
-  starved : IsUntouched extra → AreUnwritten sinks → ending ≡ Err NoMemory → CommandEnded request plant extra sinks ending
-  worked : (parts : FileParts) → SaysParts plant parts →
+  starved : ReadsPlant request.command → IsUntouched extra → AreUnwritten sinks → ending ≡ Err NoMemory → CommandEnded request plant extra sinks ending
+  worked : (parts : FileParts) → HasParts request.command plant parts →
       (AreTold request extra → WorkEnded request.command parts (records_for request extra) extra sinks ending) →
       IsBlamed request.command ending extra sinks → (request.feeds ≡ None → IsUntouched extra) →
       CommandEnded request plant extra sinks ending

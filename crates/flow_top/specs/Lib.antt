@@ -3,7 +3,6 @@ pub mod Faults
 pub mod Judged
 pub mod Course
 pub mod WindowsCourse
-pub mod CheckCourse
 pub mod Courses
 pub mod Uses
 pub mod Ended

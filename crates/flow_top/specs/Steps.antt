@@ -15,7 +15,8 @@ use Rattle.report.specs.declared.fault.TopFault.{TopFault}
 use Rattle.report.specs.declared.fault.TopFault.TheVariants.{ReadPlant, ReadExtra, WriteOut, WriteTrace}
 use Rattle.window_accept.specs.Session.{SessionOf, IsReady, IsAlong}
 use Rattle.flow_top.specs.declared.words.Command.{Command}
-use Rattle.flow_top.specs.declared.words.Command.TheVariants.{Run, Direct, Check}
+use Rattle.plant_gen.specs.Generated.{longest_train}
+use Rattle.flow_top.specs.declared.words.Command.TheVariants.{Run, Direct, Check, Demo}
 use Rattle.flow_top.specs.declared.words.Request.{Request}
 use Rattle.flow_top.specs.declared.fault.Stop.{Stop}
 use Rattle.flow_top.specs.declared.fault.End.{End}
@@ -23,6 +24,7 @@ use Rattle.flow_top.specs.declared.fault.End.TheVariants.{Stopped, NoMemory}
 use Rattle.flow_top.specs.declared.fault.Unfit.{Unfit}
 use Rattle.flow_top.specs.declared.fault.Unfit.TheVariants as unfit
 use Rattle.flow_top.specs.declared.windows.Texts.{Texts}
+use Rattle.flow_top.specs.Words.{reads_records}
 use Rattle.flow_top.specs.Faults.{stop_by}
 use Rattle.flow_top.specs.Judged.{Judgement}
 use Rattle.flow_top.specs.WindowsCourse.{first_tick, window_rows, traced_in, IsAccepted, StopsAfter}
@@ -34,12 +36,22 @@ abbrev pub given : Option ℕ → ℕ
 given None = 0
 given (Some at) = 1
 
-abbrev pub place_after : Request → ℕ
-place_after request = 2 + 2 * (given request.feeds + given request.journal)
+abbrev pub first_option : Command → ℕ
+first_option (Demo stages) = 3
+first_option command = 2
 
--- a check reads no records
-abbrev pub IsAsked : Request → Type 0
-IsAsked request = request.command ≡ Check → request.feeds ≡ None
+abbrev pub place_after : Request → ℕ
+place_after request = first_option request.command + 2 * (given request.feeds + given request.journal)
+
+-- a plant can be generated of so many stages
+abbrev pub AreStages : Command → Type 0
+AreStages (Demo stages) = (1 ≤ stages) × (stages ≤ longest_train)
+AreStages command = Unit {0}
+
+-- a request for records comes with a command that reads them
+pub record IsAsked (request : Request) : Type 0 where
+  pub stages : AreStages request.command
+  pub unread : reads_records request.command ≡ false → request.feeds ≡ None
 
 -- a fact of the judgement that was found, unless memory ran out
 abbrev pub Finds : (Judgement → Type 0) → Result FileParts Unfit → Type 0
@@ -93,12 +105,14 @@ abbrev pub header_of_steps : Command → Option (List ℕ)
 header_of_steps Run = Some trace_header
 header_of_steps Direct = None
 header_of_steps Check = None
+header_of_steps (Demo stages) = None
 
 -- the command writes the windows of the interval run, relaxed or stepped
 abbrev pub WritesBy : Command → Bool → Type 0
 WritesBy Run relaxes = relaxes ≡ true
 WritesBy Direct relaxes = relaxes ≡ false
 WritesBy Check relaxes = ⊥
+WritesBy (Demo stages) relaxes = ⊥
 
 -- the text of a window for the trace: the rows of some steps that settle it; or none, where windows are stepped
 abbrev pub AreSteps : Bool → FileParts → Option (List ℕ) → ℕ → Option (List ℕ) → Type 0

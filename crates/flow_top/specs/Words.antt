@@ -1,11 +1,17 @@
 -- The words of the command line.
-use Rattle.std.specs.Prelude.{◌+◌, ◌&&◌, ℕ, Bool, true, false, List, [], ◌∷◌, Option, Some, None, is_none, length, nat_eq, Result, Ok, Err, codes, bytes_eq, if◌then◌else◌}
+use Rattle.std.specs.Prelude.{◌+◌, ◌&&◌, ℕ, ℤ, pos, Bool, true, false, List, [], ◌∷◌, Option, Some, None, is_none, length, nat_eq, nat_le, Result, Ok, Err, codes, bytes_eq, if◌then◌else◌}
+use Rattle.lines.specs.Numbers.{number_in}
+use Rattle.plant_gen.specs.Generated.{longest_train}
 use Rattle.flow_top.specs.declared.words.Command.{Command}
-use Rattle.flow_top.specs.declared.words.Command.TheVariants.{Run, Direct, Check}
+use Rattle.flow_top.specs.declared.words.Command.TheVariants.{Run, Direct, Check, Demo}
 use Rattle.flow_top.specs.declared.words.Request.{Request}
 use Rattle.flow_top.specs.declared.words.Files.{Files}
 
--- the command of this name
+-- the digit 0
+abbrev pub zero_digit : ℕ
+zero_digit = 48
+
+-- the command of this name, where it needs no word behind it
 abbrev pub command_named : List ℕ → Option Command
 command_named word =
     if bytes_eq word (codes "run") then Some Run
@@ -18,11 +24,13 @@ abbrev pub reads_records : Command → Bool
 reads_records Run = true
 reads_records Direct = true
 reads_records Check = false
+reads_records (Demo stages) = false
 
 abbrev pub writes_trace : Command → Bool
 writes_trace Run = true
 writes_trace Direct = false
 writes_trace Check = false
+writes_trace (Demo stages) = false
 
 -- an option that the command has, and that is not given yet: `--feeds` or `--journal`
 unfoldable pub takes : Request → List ℕ → Bool
@@ -55,11 +63,30 @@ abbrev pub asked_after : Option Command → List (List ℕ) → Result Request �
 asked_after None rest = Err 1
 asked_after (Some command) rest = options_in 2 (bare_request command) rest
 
+-- the number that a word writes, from 1 to the most: 1 to 6 decimal digits without a leading zero
+abbrev pub up_to : ℕ → Option ℤ → Option ℕ
+up_to most (Some (pos n)) = if nat_le 1 n && nat_le n most then Some n else None
+up_to most number = None
+
+abbrev pub count_in : ℕ → List ℕ → Option ℕ
+count_in most [] = None
+count_in most (digit ∷ rest) = if nat_eq digit zero_digit then None else up_to most (number_in 6 false (digit ∷ rest))
+
+-- what follows `demo`: the number of stages, and then its options
+abbrev pub demo_after : Option ℕ → List (List ℕ) → Result Request ℕ
+demo_after None rest = Err 2
+demo_after (Some stages) rest = options_in 3 (bare_request (Demo stages)) rest
+
+abbrev pub demo_in : List (List ℕ) → Result Request ℕ
+demo_in [] = Err 2
+demo_in (word ∷ rest) = demo_after (count_in longest_train word) rest
+
 -- What the words ask for; or the position of the first word that does not fit, counted from 1, or one past the last where a word is
 -- missing.
 unfoldable pub request_in : List (List ℕ) → Result Request ℕ
 request_in [] = Err 1
-request_in (word ∷ rest) = asked_after (command_named word) rest
+request_in (word ∷ rest) =
+    if bytes_eq word (codes "demo") then demo_in rest else asked_after (command_named word) rest
 
 -- the positions of the words that name files
 abbrev pub files_of : Result Request ℕ → Files

@@ -1,4 +1,4 @@
-ghost use Rattle.std.specs.Prelude.{◌≡◌, ◌⊎◌, ◌<◌, ◌≤◌, ◌+◌, ◌*◌, ◌++◌, min, false, ℕ, ℤ, pos, List, [], ◌∷◌, length, map, slice_index_or, Option, Some, None};
+ghost use Rattle.std.specs.Prelude.{◌≡◌, ◌⊎◌, ◌<◌, ◌≤◌, ◌+◌, ◌*◌, ◌++◌, min, false, ℕ, ℤ, pos, List, [], ◌∷◌, length, map, slice_index_or, Option, Some, None, Ok, Err, codes};
 ghost use Rattle.quant.specs.Interval.{AllHold, point, points};
 ghost use Rattle.flowsheet.specs.Trajectory.{IsTrajectory};
 ghost use Rattle.flowsheet.specs.Limited.{ArePoints};
@@ -12,9 +12,12 @@ ghost use Rattle.plant.specs.PlantOf.{plant_of, carried_of};
 ghost use Rattle.tables.specs.Output.{header, rank_header, rows_of, channels};
 ghost use Rattle.flow_top.specs.declared.words.Command.{Command};
 ghost use Rattle.flow_top.specs.declared.fault.Stop.{Stop};
+ghost use Rattle.flow_top.specs.Words.{bare_request, request_in};
 ghost use Rattle.flow_top.specs.Judged.{Judgement, IsJudged};
 ghost use Rattle.flow_top.specs.Course.{Course, written, text_of};
-ghost use Rattle.flow_top.specs.Courses.{IsWork, WritesRun};
+ghost use Rattle.demo.specs.Summary.{summary};
+ghost use Rattle.plant_gen.specs.Generated.{generated_parts, longest_train};
+ghost use Rattle.flow_top.specs.Courses.{IsWork, WritesRun, ReadsPlant};
 ghost use Rattle.relaxation.specs.Tube.{tube_of};
 ghost use Rattle.relaxation.specs.Core.{last_of, reached};
 ghost use Rattle.relax_core.specs.Board.{RowOf, step_in};
@@ -35,6 +38,7 @@ use feeds::{records_stay_in_limits, windows_cut_the_run};
 use flow_file::read_parts_are_in_range;
 use flowsheet::{points_run_alone, trajectories_exist, trajectories_lie_in_the_run};
 use plant::{built_plants_are_plants, verdicts_exist};
+use plant_gen::generated_plants_are_plants;
 use relaxation::legal_steps_keep_the_run;
 use renewal::windows_are_open;
 use report::traces_settle_their_windows;
@@ -68,6 +72,11 @@ pub fn courses_print_the_run()
     // Where nothing stops it, no band of the run is wider than was asked.
     ensures narrow { (words : List (List ℕ)) (plant extra : SourceUse) (at : IsAtWork words plant extra) → WritesRun at.request.command →
         at.course.stop ≡ None → AreNarrowEnough at.parts (bands_by at.parts (records_for at.request extra)) 0 at.parts.ticks }
+
+    // `demo` prints the summary of the plant that is generated of so many stages.
+    ensures demo { (words : List (List ℕ)) (plant extra : SourceUse) (at : IsAtWork words plant extra) (stages : ℕ) →
+        at.request.command ≡ Command.Demo stages →
+        (at.parts ≡ generated_parts stages) × (text_of at.course ≡ summary stages) }
 
     // `check` prints a header and one row for each unit.
     ensures check { (words : List (List ℕ)) (plant extra : SourceUse) (at : IsAtWork words plant extra) → at.request.command ≡ Command.Check →
@@ -122,15 +131,19 @@ pub fn direct_prints_the_run()
     first_wide_places_are_one();
 }
 
-/// Each text has one judgement, and each command one end on it with each text of records.
+/// Each text has one judgement, and each command one end on it with each text of records. `demo` ends with no stop whatever the text.
 pub fn texts_are_judged_once()
     ensures judged { (text : List ℕ) → (judgement : Judgement) × IsJudged text judgement }
     ensures judged_once { (text : List ℕ) (one other : Judgement) → IsJudged text one → IsJudged text other → one ≡ other }
-    ensures ends { (command : Command) (text : List ℕ) (records : Option (List ℕ)) → (end : Option Stop) × IsEndOn command text records end }
-    ensures ends_once { (command : Command) (text : List ℕ) (records : Option (List ℕ)) (one other : Option Stop) →
+    ensures ends { (command : Command) (text : List ℕ) (records : Option (List ℕ)) → ReadsPlant command →
+        (end : Option Stop) × IsEndOn command (Some text) records end }
+    ensures demo_ends { (stages : ℕ) (text records : Option (List ℕ)) → 1 ≤ stages → stages ≤ longest_train →
+        IsEndOn (Command.Demo stages) text records None }
+    ensures ends_once { (command : Command) (text records : Option (List ℕ)) (one other : Option Stop) →
         IsEndOn command text records one → IsEndOn command text records other → one ≡ other }
 {
     read_parts_are_in_range();
+    generated_plants_are_plants();
     verdicts_exist();
     first_wide_places_are_one();
     wide_places_are_found();
@@ -155,7 +168,7 @@ pub fn commands_have_one_course()
 
 /// A legal trace of a run leads from the opening tubes to what is printed: whatever steps settle a window, the last versions that
 /// they leave are the bands of the interval run at the window's ticks, and a legal text lists for each window such steps, the same
-/// for all streams. `run` writes a trace, and `direct` and `check` none.
+/// for all streams. `run` writes a trace, and the other commands none.
 pub fn traces_lead_to_the_run()
     ensures run { (words : List (List ℕ)) (plant extra : SourceUse) (at : IsAtWork words plant extra) → at.request.command ≡ Command.Run →
         at.course.trace ≡ Some (traced_in at.parts (records_for at.request extra)) }
@@ -163,6 +176,8 @@ pub fn traces_lead_to_the_run()
         at.course.trace ≡ None }
     ensures check { (words : List (List ℕ)) (plant extra : SourceUse) (at : IsAtWork words plant extra) → at.request.command ≡ Command.Check →
         at.course.trace ≡ None }
+    ensures demo { (words : List (List ℕ)) (plant extra : SourceUse) (at : IsAtWork words plant extra) (stages : ℕ) →
+        at.request.command ≡ Command.Demo stages → at.course.trace ≡ None }
     ensures leads { (words : List (List ℕ)) (plant extra : SourceUse) (at : IsAtWork words plant extra) → at.request.command ≡ Command.Run →
         (w s : ℕ) → w < at.course.windows → s < length (streams_of at.parts) →
         (rows : List RowOf) → Settles ((traced_in at.parts (records_for at.request extra)).window w) rows →
@@ -179,7 +194,6 @@ pub fn traces_lead_to_the_run()
         ≡ tube_of (λ t. bands_by at.parts (records_for at.request extra) (first_tick at.parts w + t) s) (ticks_in at.parts w)) }
 {
     traces_settle_their_windows();
-    records_stay_in_limits();
     windows_cut_the_run();
     windows_are_open();
     legal_steps_keep_the_run();
@@ -191,4 +205,16 @@ pub fn worked_bands()
     ensures next { bands_by worked None 1 3 ≡ between (pos 1000) (pos 1002) ∷ [] }
     ensures last { bands_by worked None 2 3 ≡ between (pos 1000) (pos 1004) ∷ [] }
     ensures outflow { bands_by worked None 2 2 ≡ point (pos 10) ∷ between (pos 1) (pos 2) ∷ point (pos 300000) ∷ [] }
+{}
+
+/// Worked words: what follows `demo` is one number in plain digits, and nothing else.
+#[tactic(auto, unfolding(crate::specs::Words::request_in, crate::specs::Words::takes, lines::specs::Numbers::number_in))]
+pub fn worked_words()
+    ensures most { request_in (codes "demo" ∷ codes "80" ∷ []) ≡ Ok (bare_request (Command.Demo 80)) }
+    ensures missing { request_in (codes "demo" ∷ []) ≡ Err 2 }
+    ensures above { request_in (codes "demo" ∷ codes "81" ∷ []) ≡ Err 2 }
+    ensures zero { request_in (codes "demo" ∷ codes "0" ∷ []) ≡ Err 2 }
+    ensures leading { request_in (codes "demo" ∷ codes "016" ∷ []) ≡ Err 2 }
+    ensures signed { request_in (codes "demo" ∷ codes "+16" ∷ []) ≡ Err 2 }
+    ensures more { request_in (codes "demo" ∷ codes "16" ∷ codes "x" ∷ []) ≡ Err 3 }
 {}

@@ -10,6 +10,7 @@ mod pieces;
 mod plant_text;
 mod saying;
 mod stops;
+mod summary;
 mod top;
 mod windows;
 mod words;
@@ -18,6 +19,7 @@ pub use fault::Stop;
 pub use laws::{
     commands_have_one_course, courses_print_the_run, direct_prints_the_run,
     printed_bands_hold_trajectories, texts_are_judged_once, traces_lead_to_the_run, worked_bands,
+    worked_words,
 };
 pub use named_files::files;
 pub use report::{TopFault, memory_line};

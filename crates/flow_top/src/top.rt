@@ -8,6 +8,7 @@ ghost use Rattle.flow_top.specs.Causes.{TellsRecords, WroteAll, SaysRefusal, Say
 ghost use Rattle.flow_top.specs.Causes.{SaysWriteFault, SaysNothing, SaysMemory};
 ghost use Rattle.flow_top.specs.Causes.{IsEndOn, AnswersOr, AnswersUnlessRead, AnswersUnlessFailed};
 ghost use Rattle.flow_top.specs.Faults.{status_of};
+ghost use Rattle.flow_top.specs.Courses.{ReadsPlant};
 ghost use Rattle.flow_top.specs.Judged.{IsJudged};
 ghost use Rattle.report.specs.declared.fault.TopFault.{TopFault};
 ghost use Rattle.flow_top.specs.Steps.{IsAsked, RequestEnded};
@@ -19,6 +20,7 @@ use crate::commands::{write_direct, write_run};
 use crate::fault::{End, Stop};
 use crate::plant_text::plant_from;
 use crate::saying::say;
+use crate::summary::write_summary;
 use crate::words::{Command, Request, request_in};
 use flow_edge::{Gate, Sink, Source, Status, Word};
 use plant::Plant;
@@ -30,7 +32,7 @@ use window_accept::first_wide_places_are_one;
 /// Does a command. `plant` holds the plant text and `out` is given the output; what goes wrong is said to `err` in one
 /// line. `run` gives the interval run of the plant, up to the first window in which a band is wider than the plant asks, by
 /// relaxing each window, and gives `trace` the steps that narrowed; `direct` gives the same by stepping the plant; `check` gives its
-/// units with their kinds and ranks. Where the words name a file of feed records, `extra` holds these, and the run ends before the
+/// units with their kinds and ranks. `demo` reads no plant, and gives the summary of a generated one. Where the words name a file of feed records, `extra` holds these, and the run ends before the
 /// window that takes the first of them that is refused. `gate` is not used yet.
 ///
 /// Every answer but want of memory has its cause: refused words, a plant text or a record that is refused, a band that is wider
@@ -71,8 +73,8 @@ where
     ensures words_only { (at : ℕ) → request_in words.now ≡ Err at →
         AnswersOr Status.Words (sink_use F.given F.faults err.old err.new) result }
 
-    // Refused and No: exactly where the text of the plant source is refused by a fault that the command gives this status, with its
-    // line, no record read and nothing in the output or the trace; but where the source failed, the line could not be written or
+    // Refused and No: exactly where the command reads a plant and the text of the plant source is refused by a fault that the command
+    // gives this status, with its line, no record read and nothing in the output or the trace; but where the source failed, the line could not be written or
     // memory ran out. Refused also where a record is, and then what stands is that of a stop.
     ensures refused { result ≡ Status.Refused → SaysRefusal Status.Refused words.now
         (source_use S.left S.faults plant.old plant.new) (source_use E.left E.faults extra.old extra.new)
@@ -85,7 +87,7 @@ where
         (source_use S.left S.faults plant.old plant.new) (source_use E.left E.faults extra.old extra.new)
         (sinks_use O.given O.faults out.old out.new T.given T.faults trace.old trace.new) (sink_use F.given F.faults err.old err.new) }
     ensures refused_only { (request : Request) (text : List ℕ) (fault : TopFault) → request_in words.now ≡ Ok request →
-        S.left plant.old ≡ Some text → IsJudged text (Err fault) →
+        ReadsPlant request.command → S.left plant.old ≡ Some text → IsJudged text (Err fault) →
         AnswersUnlessRead (status_of request.command fault) (source_use S.left S.faults plant.old plant.new)
         (sink_use F.given F.faults err.old err.new) result }
 
@@ -95,9 +97,9 @@ where
         SaysStop Status.Wide words.now
         (source_use S.left S.faults plant.old plant.new) (source_use E.left E.faults extra.old extra.new)
         (sinks_use O.given O.faults out.old out.new T.given T.faults trace.old trace.new) (sink_use F.given F.faults err.old err.new) }
-    ensures stopped_only { (request : Request) (text : List ℕ) (stop : Stop) → request_in words.now ≡ Ok request →
-        S.left plant.old ≡ Some text → AreTold request (source_use E.left E.faults extra.old extra.new) →
-        IsEndOn request.command text (records_for request (source_use E.left E.faults extra.old extra.new)) (Some stop) →
+    ensures stopped_only { (request : Request) (stop : Stop) → request_in words.now ≡ Ok request →
+        AreTold request (source_use E.left E.faults extra.old extra.new) →
+        IsEndOn request.command (S.left plant.old) (records_for request (source_use E.left E.faults extra.old extra.new)) (Some stop) →
         AnswersUnlessFailed stop.status (source_use S.left S.faults plant.old plant.new) (source_use E.left E.faults extra.old extra.new)
         (sinks_use O.given O.faults out.old out.new T.given T.faults trace.old trace.new) (sink_use F.given F.faults err.old err.new) result }
 
@@ -119,10 +121,11 @@ where
         (source_use S.left S.faults plant.old plant.new) (source_use E.left E.faults extra.old extra.new)
         (sinks_use O.given O.faults out.old out.new T.given T.faults trace.old trace.new) (sink_use F.given F.faults err.old err.new) }
 
-    // A text on which the command ends with no stop is done where no device fails, unless memory ran out.
-    ensures complete { (request : Request) (text : List ℕ) → request_in words.now ≡ Ok request →
-        S.left plant.old ≡ Some text → AreTold request (source_use E.left E.faults extra.old extra.new) →
-        IsEndOn request.command text (records_for request (source_use E.left E.faults extra.old extra.new)) None →
+    // A command that ends with no stop on the text of the plant source is done where no device fails, unless memory ran out; so is
+    // `demo`, whatever that source tells.
+    ensures complete { (request : Request) → request_in words.now ≡ Ok request →
+        AreTold request (source_use E.left E.faults extra.old extra.new) →
+        IsEndOn request.command (S.left plant.old) (records_for request (source_use E.left E.faults extra.old extra.new)) None →
         ¬ Rose (S.faults plant.old) (S.faults plant.new) → ¬ Rose (E.faults extra.old) (E.faults extra.new) →
         ¬ Rose (O.faults out.old) (O.faults out.new) → ¬ Rose (T.faults trace.old) (T.faults trace.new) →
         ¬ Rose (F.faults err.old) (F.faults err.new) →
@@ -160,11 +163,36 @@ fn work<R: Threads + Sync, S: Source, E: Source, O: Sink, T: Sink>(
         result }
 {
     match request_in(words) {
-        Ok(request) => do_command(rt, alloc, request, source, extra, out, trace),
+        Ok(request) => do_request(rt, alloc, request, source, extra, out, trace),
         Err(at) => Err(End::Stopped(Stop {
             fault: TopFault::Words { at },
             status: Status::Words,
         })),
+    }
+}
+
+/// Does what is asked for: with a plant that is read, or a generated one.
+fn do_request<R: Threads + Sync, S: Source, E: Source, O: Sink, T: Sink>(
+    rt: &R,
+    alloc: Global,
+    request: Request,
+    source: &mut S,
+    extra: &mut E,
+    out: &mut O,
+    trace: &mut T,
+) -> Result<(), End>
+    requires asked { IsAsked request }
+    ensures { CommandEnded request
+        (source_use S.left S.faults source.old source.new)
+        (source_use E.left E.faults extra.old extra.new)
+        (sinks_use O.given O.faults out.old out.new T.given T.faults trace.old trace.new)
+        result }
+{
+    match request.command {
+        Command::Demo { stages } => write_summary(rt, alloc, stages, out),
+        Command::Run | Command::Direct | Command::Check => {
+            do_command(rt, alloc, request, source, extra, out, trace)
+        }
     }
 }
 
@@ -179,6 +207,7 @@ fn do_command<R: Threads + Sync, S: Source, E: Source, O: Sink, T: Sink>(
     trace: &mut T,
 ) -> Result<(), End>
     requires asked { IsAsked request }
+    requires reads { ReadsPlant request.command }
     ensures { CommandEnded request
         (source_use S.left S.faults source.old source.new)
         (source_use E.left E.faults extra.old extra.new)
@@ -202,6 +231,7 @@ fn do_on_plant<R: Threads + Sync, E: Source, O: Sink, T: Sink>(
     trace: &mut T,
 ) -> Result<(), End>
     requires asked { IsAsked request }
+    requires reads { ReadsPlant request.command }
     ensures { RequestEnded request plant
         (source_use E.left E.faults extra.old extra.new)
         (sinks_use O.given O.faults out.old out.new T.given T.faults trace.old trace.new) result }
@@ -210,5 +240,6 @@ fn do_on_plant<R: Threads + Sync, E: Source, O: Sink, T: Sink>(
         Command::Run => write_run(rt, alloc, request, plant, extra, out, trace),
         Command::Direct => write_direct(rt, alloc, request, plant, extra, out, trace),
         Command::Check => write_ranks(alloc, &plant, out),
+        Command::Demo { .. } => unreachable!(),
     }
 }

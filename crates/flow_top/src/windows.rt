@@ -48,7 +48,7 @@ fn header_of_steps(command: Command) -> Option<&'static [u8]>
 {
     match command {
         Command::Run => Some(trace_header()),
-        Command::Direct | Command::Check => None,
+        Command::Direct | Command::Check | Command::Demo { .. } => None,
     }
 }
 

@@ -1,8 +1,9 @@
-ghost use Rattle.std.specs.Prelude.{◌≡◌};
-ghost use Rattle.flow_top.specs.Words.{command_named, reads_records, writes_trace, takes, with_file, options_in, request_in};
+ghost use Rattle.std.specs.Prelude.{◌≡◌, Some};
+ghost use Rattle.flow_top.specs.Words.{command_named, reads_records, writes_trace, takes, with_file, options_in, bare_request, up_to, count_in, demo_in, request_in};
 ghost use Rattle.flow_top.specs.Steps.{place_after};
 
 use flow_edge::Word;
+use lines::number_at;
 
 /// What the program does.
 #[derive(Clone, Copy, Debug, PartialEq, Eq)]
@@ -13,7 +14,12 @@ pub enum Command {
     Direct,
     /// The units of a plant, with their ranks.
     Check,
+    /// The summary of the generated plant of so many stages, 1 to 80.
+    Demo { stages: u32 },
 }
+
+/// The most stages of a generated plant.
+const MOST_STAGES: u32 = 80;
 
 /// What the words ask for.
 #[derive(Clone, Copy, Debug, PartialEq, Eq)]
@@ -34,7 +40,7 @@ pub struct Files {
     pub trace: Option<u32>,
 }
 
-/// The command of this name.
+/// The command of this name, where it needs no word behind it.
 fn command_named(word: &[u8]) -> Option<Command>
     ensures { result ≡ command_named word.now }
 {
@@ -56,7 +62,7 @@ fn reads_records(command: Command) -> bool
 {
     match command {
         Command::Run | Command::Direct => true,
-        Command::Check => false,
+        Command::Check | Command::Demo { .. } => false,
     }
 }
 
@@ -66,7 +72,7 @@ pub fn writes_trace(command: Command) -> bool
 {
     match command {
         Command::Run => true,
-        Command::Direct | Command::Check => false,
+        Command::Direct | Command::Check | Command::Demo { .. } => false,
     }
 }
 
@@ -119,6 +125,50 @@ fn options_in(options: &[Word], at: u32, request: Request) -> Result<Request, u3
     }
 }
 
+/// A request with no option.
+fn bare_request(command: Command) -> Request
+    ensures { result ≡ bare_request command }
+{
+    Request {
+        command,
+        feeds: None,
+        journal: None,
+    }
+}
+
+/// A number from 1 to `most`.
+fn up_to(most: u32, number: i64) -> Option<u32>
+    ensures { result ≡ up_to most (Some number) }
+{
+    match u32::try_from(number) {
+        Ok(count) if 1 <= count && count <= most => Some(count),
+        _ => None,
+    }
+}
+
+/// The number that a word writes: 1 to 6 decimal digits without a leading zero, from 1 to `most`.
+fn count_in(word: &[u8], most: u32) -> Option<u32>
+    ensures { result ≡ count_in most word.now }
+{
+    match word {
+        [] | [b'0', ..] => None,
+        _ => up_to(most, number_at(word, 6, false)?),
+    }
+}
+
+/// What the words behind `demo` ask for: the number of stages, and then options.
+fn demo_in(words: &[Word]) -> Result<Request, u32>
+    ensures { result ≡ demo_in words.now }
+{
+    match words {
+        [] => Err(2),
+        [word, rest @ ..] => match count_in(word.as_bytes(), MOST_STAGES) {
+            None => Err(2),
+            Some(stages) => options_in(rest, 3, bare_request(Command::Demo { stages })),
+        },
+    }
+}
+
 /// What the words ask for; or the position of the first word that does not fit, counted from 1, or one past the last where a
 /// word is missing.
 #[tactic(auto, unfolding(crate::specs::Words::request_in))]
@@ -127,17 +177,10 @@ pub fn request_in(words: &[Word]) -> Result<Request, u32>
 {
     match words {
         [] => Err(1),
+        [word, rest @ ..] if word.as_bytes() == b"demo".as_slice() => demo_in(rest),
         [word, rest @ ..] => match command_named(word.as_bytes()) {
             None => Err(1),
-            Some(command) => options_in(
-                rest,
-                2,
-                Request {
-                    command,
-                    feeds: None,
-                    journal: None,
-                },
-            ),
+            Some(command) => options_in(rest, 2, bare_request(command)),
         },
     }
 }

@@ -1,8 +1,12 @@
-use Rattle.std.proofs.Common.{inl, inr, subst}
+use Rattle.std.proofs.Common.{inl, inr, subst, []}
+use Rattle.tables.specs.Output.{rank_header}
+use Rattle.report.specs.Ranks.{rank_rows}
+use Rattle.demo.specs.Summary.{summary}
+use Rattle.flow_top.specs.Ended.{HasParts}
 use Rattle.flow_top.specs.declared.words.Command.{Command}
 use Rattle.flow_top.specs.Courses.{IsCourse}
 use Rattle.flow_top.proofs.Channels.{run-channels}
-use Rattle.flow_top.proofs.Courses.{check-printed, course-stops}
+use Rattle.flow_top.proofs.Courses.{once-printed, course-stops}
 use Rattle.flow_top.proofs.RunRows.{work-windows, work-text}
 use Rattle.flow_top.proofs.Stopping.{run-narrow, run-first, run-taken}
 use Rattle.flow_top.specs.Ended.{records_for}
@@ -36,7 +40,14 @@ returns-clause-narrow c words plant extra at writes whole = run-narrow at.reques
 
 pub returns-clause-check : goal.returns-clause-check
 returns-clause-check c words plant extra at check =
-    check-printed at.parts at.course (subst (λ (k : Command). IsCourse k at.parts (records_for at.request extra) at.course) check at.work.follows)
+    once-printed rank_header (rank_rows at.parts) at.course (subst (λ (k : Command). IsCourse k at.parts (records_for at.request extra) at.course) check at.work.follows)
+
+pub returns-clause-demo : goal.returns-clause-demo
+returns-clause-demo c words plant extra at stages demo = (
+  (subst (λ (k : Command). HasParts k plant at.parts) demo at.has).0,
+  once-printed [] (summary stages) at.course
+      (subst (λ (k : Command). IsCourse k at.parts (records_for at.request extra) at.course) demo at.work.follows),
+)
 
 pub returns-clause-channels : goal.returns-clause-channels
 returns-clause-channels c words plant extra at tick s h = run-channels at.parts _ at.work.plant (c.records_stay_in_limits.ensures at.parts (records_for at.request extra) at.work.plant) tick s h

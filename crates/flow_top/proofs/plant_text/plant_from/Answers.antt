@@ -5,7 +5,8 @@ use Rattle.flow_top.specs.Faults.{too_long}
 use Rattle.flow_top.specs.Steps.{refusal}
 use Rattle.report.specs.declared.fault.TopFault.TheVariants.{TooLong}
 use Rattle.flow_top.proofs.Readings.{more-refused, whole-judged, whole-left}
-use Rattle.flow_top.proofs.Causes.{judged-kind, judged-plant}
+use Rattle.flow_top.proofs.Statuses.{judged-kind}
+use Rattle.flow_top.proofs.Ends.{judged-plant}
 use Rattle.flow_top.proofs.plant_text.plant_from.Goals as goal
 
 pub returns-then-up : goal.returns-then-up

@@ -1,5 +1,6 @@
 use Rattle.flow_edge.specs.declared.status.Status.TheVariants as status
-use Rattle.flow_top.proofs.Causes.{caused, words-only, refused-only, stopped-only, complete}
+use Rattle.flow_top.proofs.Causes.{caused}
+use Rattle.flow_top.proofs.Only.{words-only, refused-only, stopped-only, complete}
 use Rattle.flow_top.proofs.top.flow_top.Goals as goal
 
 pub returns-clause-done : goal.returns-clause-done
@@ -33,16 +34,16 @@ pub returns-clause-words_only : goal.returns-clause-words_only
 returns-clause-words_only g c at d = words-only _ _ _ _ _ _ at c.work-ended.result c.work-ended.ensures c.say.ensures d
 
 pub returns-clause-refused_only : goal.returns-clause-refused_only
-returns-clause-refused_only g c request text fault a t judged =
+returns-clause-refused_only g c request text fault a k t judged =
     refused-only _ _ _ _ _ _ c.first_wide_places_are_one.ensures request text fault c.work-ended.result c.work-ended.ensures
-    c.say.ensures a t judged
+    c.say.ensures a k t judged
 
 pub returns-clause-stopped_only : goal.returns-clause-stopped_only
-returns-clause-stopped_only g c request text stop a t told ends =
-    stopped-only _ _ _ _ _ _ c.first_wide_places_are_one.ensures request text stop c.work-ended.result c.work-ended.ensures
-    c.say.ensures a t told ends
+returns-clause-stopped_only g c request stop a told ends =
+    stopped-only _ _ _ _ _ _ c.first_wide_places_are_one.ensures request stop c.work-ended.result c.work-ended.ensures
+    c.say.ensures a told ends
 
 pub returns-clause-complete : goal.returns-clause-complete
-returns-clause-complete g c request text a t told ends p x o q s =
-    complete _ _ _ _ _ _ c.first_wide_places_are_one.ensures request text c.work-ended.result c.work-ended.ensures c.say.ensures
-    a t told ends p x o q s
+returns-clause-complete g c request a told ends p x o q s =
+    complete _ _ _ _ _ _ c.first_wide_places_are_one.ensures request c.work-ended.result c.work-ended.ensures c.say.ensures
+    a told ends p x o q s
