@@ -37,8 +37,8 @@ all_but_last pieces = take (length pieces - 1) pieces
 abbrev pub ended_lines_of : List ℕ → List (List ℕ)
 ended_lines_of text = lines_in (all_but_last (pieces_of line_feed text))
 
--- The first line from this place on: it stands between its start and its stop, with nothing but empty lines before it. A line
--- feed ends it, behind which the text goes on with the lines after it, or the text ends with it.
+-- The first line from this place on: it stands between its start and its stop, with nothing but empty lines before it. A
+-- line feed ends it, behind which the text goes on with the lines after it, or the text ends with it.
 pub record IsLineAt (bytes : List ℕ) (from : ℕ) (line : Line) : Type 0 where
   pub start : from ≤ line.start
   pub stop : line.start ≤ line.stop
