@@ -1,5 +1,5 @@
 -- What a reader of records answers, and where it stands then.
-use Rattle.std.proofs.Common.{◌≡◌, ◌∙◌, ℕ, ◌+◌, ◌≤◌, Bool, true, false, cond, eqb, List, [], ◌++◌, length, take, drop, Option, Some, None, IfSome, IfOk, Result, Ok, Err, refl, sym, ap, subst, arith, inl, inr, ltb-false}
+use Rattle.std.proofs.Common.{◌≡◌, ◌∙◌, ℕ, ◌+◌, ◌≤◌, Bool, true, false, cond, eqb, List, [], ◌∷◌, ◌++◌, length, take, drop, Option, Some, None, IfSome, IfOk, Result, Ok, Err, refl, sym, ap, subst, arith, inl, inr, ltb-false}
 use Rattle.std.specs.List.{AllByRecursion}
 use Rattle.std.proofs.lemmas.Bool.{ltb_from_iff}
 use Rattle.std.proofs.lemmas.List.{drop_all}
@@ -47,29 +47,38 @@ pub record IsRead (parts : FileParts) (text : List ℕ) (asked : ℕ) (up : Read
   pub rest : left ≡ Some (drop (most_bytes + 1) text)
   pub has : HasTaken parts text up asked taken
 
-begun : (parts : FileParts) (text : List ℕ) (asked : ℕ) (up : ReadText) → up ≡ first_part text →
-    HasTaken parts text up asked (nothing_taken parts)
-begun parts text asked up e = subst (λ part. HasTaken parts text part asked (nothing_taken parts)) (sym e) (record {
+from-zero : (records : List Record) → AllByRecursion (λ one. 0 ≤ one.tick) records
+from-zero [] = tt
+from-zero (one ∷ records) = (omega arith, from-zero records)
+
+-- before the first window nothing was taken, and all is still to come
+begun : (parts : FileParts) (text : List ℕ) (up : ReadText) → IsPlant parts → up ≡ first_part text →
+    HasTaken parts text up 0 (nothing_taken parts)
+begun parts text up plant e = subst (λ part. HasTaken parts text part 0 (nothing_taken parts)) (sym e) (record {
   records = [];
   split = refl;
   before = λ goes. tt;
+  later = from-zero (pending parts (first_part text) (nothing_taken parts)).records;
+  ends = λ ended. absurd (let some = plant.ranges.ticks.0 in omega arith);
+  ahead = λ asked. absurd (omega arith);
   held = refl;
 })
 
 pub is-read : {S : Type 0} (left : S → Option (List ℕ)) (before after : S) (parts : FileParts) (text : List ℕ) (asked : ℕ)
-    (kept : Option ReadText) (up : ReadText) (taken : Taken) →
+    (kept : Option ReadText) (up : ReadText) (taken : Taken) → IsPlant parts →
     IfSome kept (λ t. (◌≡◌ {A = Result ReadText FeedFault} (Ok up) (Ok t)) × (after ≡ before)) →
     (kept ≡ None → IfSome (left before) (λ t. ReadsUp most_bytes t up (left after))) →
     StandsAt parts text asked (left before) kept taken → IsRead parts text asked up (left after) taken
-is-read left before after parts text asked None up taken same reads stands =
+is-read left before after parts text asked None up taken plant same reads stands =
     let first = read-first text up (left after)
-    (subst (λ (told : Option (List ℕ)). IfSome told (λ t. ReadsUp most_bytes t up (left after))) stands.0 (reads refl)) in
+    (subst (λ (told : Option (List ℕ)). IfSome told (λ t. ReadsUp most_bytes t up (left after))) stands.1 (reads refl)) in
     record {
       part = first.0;
       rest = first.1;
-      has = subst (HasTaken parts text up asked) (sym stands.1) (begun parts text asked up first.0);
+      has = subst (λ n. HasTaken parts text up n taken) (sym stands.0)
+          (subst (HasTaken parts text up 0) (sym stands.2) (begun parts text up plant first.0));
     }
-is-read left before after parts text asked (Some t) up taken same reads stands =
+is-read left before after parts text asked (Some t) up taken plant same reads stands =
     let is : up ≡ t = cc (same.0) in
     record {
       part = is ∙ stands.0;
@@ -145,5 +154,5 @@ module _ (parts : FileParts) (plant : IsPlant parts) (first n : ℕ) (some : 1 �
   gives-in left before after kept answer same reads answers = record {
     tubes = tubes-within answer answers;
     by = λ text asked later stands. by-text text asked (left after) answer later
-        (is-read left before after parts text asked kept up old same reads stands) answers;
+        (is-read left before after parts text asked kept up old plant same reads stands) answers;
   }

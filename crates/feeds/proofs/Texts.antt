@@ -14,7 +14,7 @@ use Rattle.feeds.specs.declared.record.Record.{Record}
 use Rattle.feeds.specs.declared.taken.Taken.{Taken}
 use Rattle.feeds.specs.declared.reader.FeedFault.{FeedFault}
 use Rattle.feeds.specs.declared.reader.FeedFault.TheVariants.{BadRecord}
-use Rattle.feeds.specs.Records.{ReadRecords, whole, cut_off, entries_of, record_entries, refused_by, judged, read_on, read_from, read_text, records_in, is_too_long, most_bytes}
+use Rattle.feeds.specs.Records.{ReadRecords, whole, cut_off, entries_of, record_entries, refused_by, judged, read_on, read_from, read_text, records_in, is_too_long, most_bytes, no_more}
 use Rattle.feeds.specs.Given.{recorded, given_by, are_before, refusal_by, fed_tubes, tubes_by}
 use Rattle.feeds.specs.Held.{nothing_held, held_after}
 use Rattle.feeds.specs.Standing.{IsRecordFor, as_list, unread, with_front, pending, HasTaken}
@@ -179,6 +179,21 @@ module _ (parts : FileParts) (plant : IsPlant parts) (text : List ℕ) (up : Rea
     pub nothing-left : first + n ≡ parts.ticks → drop (most_bytes + 1) text ≡ []
     nothing-left e = left-nothing parts text (refusal-left ∙ ap (λ (all : ReadRecords). all.refusal) (fills.ends e))
 
+    -- what is still to come then
+    come-later : AllByRecursion (λ one. first + n ≤ one.tick) (pending parts up read).records
+    come-later = elim (cases_eq (first + n) parts.ticks) [
+      | inl e ↦ subst (λ (left : ReadRecords). AllByRecursion (λ one. first + n ≤ one.tick) left.records) (sym (fills.ends e)) tt
+      | inr ne ↦ (
+          let come = fills.goes_on ne in
+          subst (λ k. AllByRecursion (λ one. k ≤ one.tick) (pending parts up read).records) come.0 come.1.later)
+    ]
+
+    come-none : read.ahead ≡ None → pending parts up read ≡ no_more
+    come-none none = elim (cases_eq (first + n) parts.ticks) [
+      | inl e ↦ fills.ends e
+      | inr ne ↦ (fills.goes_on ne).1.ends none
+    ]
+
     pub has-taken : HasTaken parts text up (first + n) read
     has-taken = record {
       records = has.records ++ fills.takes.records;
@@ -187,6 +202,9 @@ module _ (parts : FileParts) (plant : IsPlant parts) (text : List ℕ) (up : Rea
           let end = (fills.goes_on (omega arith)).0 in
           before-both asked (first + n) has.records fills.takes.records (omega arith) before-window
           (subst (λ k. AllByRecursion (λ one. one.tick < k) fills.takes.records) end fills.takes.before));
+      later = come-later;
+      ends = λ ended. fills.ends (omega arith);
+      ahead = λ asked. come-none;
       held = fills.takes.held ∙ ap (λ held. held_after held fills.takes.records) has.held
           ∙ sym (after-both (nothing_held parts) has.records fills.takes.records);
     }

@@ -16,7 +16,8 @@ abbrev pub IsFailure : FeedFault → Type 0
 IsFailure fault = (fault ≡ ReadFault) ⊎ (fault ≡ NoMemory)
 
 -- Where a reader stands in a text of records, or has none, it gives the tubes that they give, of records of which the window takes none
--- that is refused, and stands there again, at the end of the text where the run ends; or it answers the refused record; or it fails.
+-- that is refused, and stands behind those that it takes, at the end of the text where the run ends; or it answers the refused record;
+-- or it fails.
 abbrev pub GivesBy : FileParts → Option (List ℕ) → ℕ → ℕ → Feeding → Result (List Tube) FeedFault → Type 0
 GivesBy parts records first n read (Ok tubes) =
     (refusal_by parts records (first + n) ≡ None) × (tubes ≡ tubes_by parts records first n)

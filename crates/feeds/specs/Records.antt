@@ -103,6 +103,10 @@ pub record ReadRecords : Type 0 where
   pub records : List Record
   pub refusal : Option FeedFault
 
+-- there is no further record
+abbrev pub no_more : ReadRecords
+no_more = record { records = []; refusal = None }
+
 abbrev pub refused_by : FeedFault → ReadRecords
 refused_by fault = record { records = []; refusal = Some fault }
 
@@ -129,7 +133,7 @@ read_on (Err fault) after = refused_by fault
 
 -- the records of these lines, of which the first has this number and follows a record of this tick
 abbrev pub read_from : FileParts → ℕ → ℕ → List Entry → ReadRecords
-read_from parts at before [] = record { records = []; refusal = None }
+read_from parts at before [] = no_more
 read_from parts at before (cut_off ∷ rest) = refused_by (TooLong at)
 read_from parts at before (whole line ∷ rest) =
     read_on (judged parts at before line) (λ first. read_from parts (at + 1) first.tick rest)

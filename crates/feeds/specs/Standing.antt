@@ -10,7 +10,7 @@ use Rattle.feeds.specs.declared.record.FeedChannel.{FeedChannel}
 use Rattle.feeds.specs.declared.record.Record.{Record}
 use Rattle.feeds.specs.declared.taken.Taken.{Taken}
 use Rattle.feeds.specs.declared.records.Records.{Records}
-use Rattle.feeds.specs.Records.{ReadRecords, Entry, entries_of, is_too_long, last_tick, most_bytes, read_from, read_text, records_in}
+use Rattle.feeds.specs.Records.{ReadRecords, Entry, entries_of, is_too_long, last_tick, most_bytes, no_more, read_from, read_text, records_in}
 use Rattle.feeds.specs.Held.{AreHeldIn, held_of, held_after, nothing_held}
 use Rattle.feeds.specs.ReaderOf.{ReaderOf, Feeding}
 
@@ -74,21 +74,25 @@ as_list (Some one) = one ∷ []
 abbrev pub pending : FileParts → ReadText → Taken → ReadRecords
 pending parts text taken = with_front (as_list taken.ahead) (unread parts text taken)
 
--- Of a text some first records were taken: unless the run has ended, all before the end of the last window; what they leave is held; and
--- the text's other records are still to come.
+-- Of a text the first records were taken, up to the first whose tick is not before the end of the last window, or all of them, where the
+-- run ended with it; what they leave is held; and the text's other records are still to come. Of these the first is the record ahead,
+-- once a window was asked for.
 pub record HasTaken (parts : FileParts) (text : List ℕ) (up : ReadText) (asked : ℕ) (taken : Taken) : Type 0 where
   pub records : List Record
   pub split : records_in parts text ≡ with_front records (pending parts up taken)
   pub before : asked < parts.ticks → AllByRecursion (λ one. one.tick < asked) records
+  pub later : AllByRecursion (λ one. asked ≤ one.tick) (pending parts up taken).records
+  pub ends : parts.ticks ≤ asked → pending parts up taken ≡ no_more
+  pub ahead : 1 ≤ asked → taken.ahead ≡ None → pending parts up taken ≡ no_more
   pub held : taken.held ≡ held_after (nothing_held parts) records
 
 -- the first bytes of a text
 abbrev pub first_part : List ℕ → ReadText
 first_part text = record { bytes = take most_bytes text; more = is_too_long text }
 
--- the text was not read yet; or its first bytes were, and some of its records were taken
+-- no window was asked for, and the text was not read yet; or its first bytes were, and the windows have taken their records
 abbrev pub StandsAt : FileParts → List ℕ → ℕ → Option (List ℕ) → Option ReadText → Taken → Type 0
-StandsAt parts text asked left None taken = (left ≡ Some text) × (taken ≡ nothing_taken parts)
+StandsAt parts text asked left None taken = (asked ≡ 0) × (left ≡ Some text) × (taken ≡ nothing_taken parts)
 StandsAt parts text asked left (Some up) taken =
     (up ≡ first_part text) × (left ≡ Some (drop (most_bytes + 1) text)) × HasTaken parts text up asked taken
 

@@ -11,13 +11,9 @@ use Rattle.feeds.specs.declared.next_line.NextLine.TheVariants as next
 use Rattle.feeds.specs.declared.taken.Taken.{Taken}
 use Rattle.feeds.specs.declared.reader.FeedFault.{FeedFault}
 use Rattle.feeds.specs.declared.reader.FeedFault.TheVariants.{ReadFault}
-use Rattle.feeds.specs.Records.{ReadRecords, Entry, whole, cut_off, entries_of, refused_by, read_from}
+use Rattle.feeds.specs.Records.{ReadRecords, Entry, whole, cut_off, entries_of, no_more, refused_by, read_from}
 use Rattle.feeds.specs.Held.{held_of, held_after}
 use Rattle.feeds.specs.Standing.{IsRecordFor, IsTakenFor, as_list, unread, pending, with_front}
-
--- there is no further record
-abbrev pub no_more : ReadRecords
-no_more = record { records = []; refusal = None }
 
 -- the lines that are left of a text at a place
 abbrev pub entries_at : ReadText → ℕ → List Entry

@@ -9,13 +9,13 @@ use Rattle.feeds.specs.declared.taken.Taken.{Taken}
 use Rattle.feeds.specs.declared.reader.FeedFault.{FeedFault}
 use Rattle.feeds.specs.declared.reader.FeedFault.TheVariants.{ReadFault, NoMemory}
 use Rattle.feeds.specs.Given.{fed_tubes}
-use Rattle.feeds.specs.Records.{last_tick}
+use Rattle.feeds.specs.Records.{last_tick, no_more}
 use Rattle.feeds.specs.Filling.{AreFilledBefore, filled_bands}
 use Rattle.feeds.specs.declared.records.Records.{Records}
 use Rattle.feeds.specs.Given.{given_tubes, refusal_by, tubes_by}
 use Rattle.feeds.specs.Standing.{pending, AreRecordsFor, StandsAt, StandsIn}
 use Rattle.feeds.specs.Reader.{AreFeedTubes, IsFailure}
-use Rattle.feeds.specs.Taking.{Takes, HasCome, MeetsRefusal, no_more}
+use Rattle.feeds.specs.Taking.{Takes, HasCome, MeetsRefusal}
 
 -- all ticks of the window have what records say
 pub record Fills (parts : FileParts) (text : ReadText) (first n : ℕ) (old read : Taken) (tubes : List Tube) : Type 0 where

@@ -1,8 +1,8 @@
 -- Texts that are cut at their first separator, and the line that begins at a place.
-use Rattle.std.proofs.Common.{◌≡◌, ◌≢◌, ℕ, suc, inl, inr, ◌+◌, ◌-◌, ◌<◌, ◌≤◌, false, eqb, List, [], ◌∷◌, length, take, drop, Some, None, refl, ◌∙◌, ap, arith, length-drop, length-take}
-use Rattle.std.specs.List.{position_or_len, slice_range, slice_index, All}
+use Rattle.std.proofs.Common.{◌≡◌, ◌≢◌, ◌⊎◌, ℕ, suc, inl, inr, ◌+◌, ◌-◌, ◌<◌, ◌≤◌, false, eqb, List, [], ◌∷◌, length, get_or, take, drop, Some, None, refl, ◌∙◌, ap, arith, length-drop, length-take}
+use Rattle.std.specs.List.{position_or_len, slice_range, slice_index, All, Contains}
 use Rattle.std.specs.Str.Lines.{strip_carriage_return}
-use Rattle.std.proofs.lemmas.List.{drop-drop, take-take, take_rest, take_all, drop_all, get_or-drop}
+use Rattle.std.proofs.lemmas.List.{drop-drop, take-take, take_rest, take_all, drop_all, get_or-drop, get_or-take}
 use Rattle.std.proofs.lemmas.List.Edits.{length-between}
 use Rattle.std.proofs.lemmas.List.Splits.{slice_split_none, slice_split_first, length-slice_split}
 use Rattle.std.proofs.lemmas.List.Sums.{fails_before_first}
@@ -11,6 +11,7 @@ use Rattle.std.proofs.lemmas.Bool.{cases_eq}
 use Rattle.lines.specs.declared.cutting.Line.{Line}
 use Rattle.lines.specs.Lines.{line_feed, comma, pieces_of, fields_of, lines_in, lines_of, all_but_last, ended_lines_of, IsLineAt}
 use Rattle.lines.specs.Pieces.{place_of, before_lines, BeginsLine, PassesEmpty}
+use Rattle.lines.proofs.Joins.{none_before}
 
 place_is : (separator : ℕ) (text : List ℕ) (i : ℕ) → place_of separator text ≡ Some i →
     position_or_len (λ byte. eqb byte separator) text ≡ i
@@ -106,6 +107,16 @@ no_feed bytes start after none more within feed =
     let same = get_or-drop start bytes (after - 1 - start) 0 in
     absurd (grind (arith, fails, same, here))
 
+-- no line feed is among bytes of which none is one
+apart_front : (text : List ℕ) (n : ℕ) → ((k : ℕ) → k < n → k < length text → eqb (get_or text k line_feed) line_feed ≡ false) →
+    ¬ Contains (take n text) line_feed
+apart_front text n fails there =
+    let k = there.0 in
+    let size = length-take n text in
+    let same = get_or-take n text k line_feed (omega (arith, there.1, size)) in
+    let no = fails k (omega (arith, there.1, size)) (omega (arith, there.1, size)) in
+    absurd (grind (arith, no, same, there.2))
+
 pub begins_ended : (bytes : List ℕ) (start at : ℕ) (kept : List ℕ) → place_of line_feed (drop start bytes) ≡ Some at →
     kept ≡ strip_carriage_return (take at (drop start bytes)) →
     BeginsLine bytes start (record { start = start; stop = start + length kept; after = start + at + 1 })
@@ -118,12 +129,14 @@ begins_ended bytes start at kept found e =
     rw (← behind) (pieces_at line_feed rest at found) in
     let kept_of = keeps bytes start at kept (omega arith) e in
     let size = length-drop start bytes in
+    let apart : start + at + 1 - 1 - start ≡ at = omega arith in
     record {
       start = refl;
       stop = omega arith;
       after = omega (arith, kept_of.least);
       further = omega arith;
       inside = omega arith;
+      whole = rw (apart) (apart_front rest at (λ k before short. (position-Some _ rest at line_feed found).2 k before));
       lines = rw (kept_of.range, e) (lines_before rest (take at rest) (drop (start + at + 1) bytes) cut);
       ended = λ _. rw (kept_of.range, e) (ended_before rest (take at rest) (drop (start + at + 1) bytes) cut);
       unended = λ other. absurd (other (feed_at bytes start at _ found refl));
@@ -145,6 +158,7 @@ begins_unended bytes start kept none e more =
       after = omega (arith, kept_of.least);
       further = omega arith;
       inside = omega arith;
+      whole = apart_front rest (length bytes - 1 - start) (λ k before short. none_within line_feed rest none k line_feed short);
       lines = rw (kept_of.range, e, drop_all (length bytes) bytes end) (ap lines_in cut ∙ lines-cons rest []);
       ended = λ feed. absurd (no_feed bytes start _ none (omega arith) (omega arith) feed);
       unended = λ _. (ap (λ pieces. lines_in (all_but_last pieces)) cut, omega arith);
@@ -161,11 +175,17 @@ pub line_found : (bytes : List ℕ) (from start : ℕ) (line : Line) → PassesE
 line_found bytes from start line passed begun some =
     let size : 0 < length (slice_range bytes line.start line.stop) =
     omega (arith, length-between bytes line.start line.stop (omega arith)) in
+    let begins : (line.start ≡ from) ⊎ (slice_index bytes (line.start - 1) ≡ line_feed) =
+    rw begun.start (passed.begins (omega arith)) in
+    let passed_lines : lines_of (drop from bytes) ≡ lines_of (drop line.start bytes) = rw begun.start passed.lines in
     record {
       start = omega arith;
       stop = begun.stop;
       after = begun.after;
       inside = begun.inside;
+      begins = begins;
+      before = none_before bytes from line.start (omega arith) (omega arith) begins passed_lines;
+      whole = begun.whole;
       lines = passed.lines ∙ begun.lines ∙ full _ _ size;
       ended = λ feed. passed.ended ∙ begun.ended feed ∙ full _ _ size;
       unended = λ other. (passed.ended ∙ (begun.unended other).0, (begun.unended other).1);
@@ -179,6 +199,10 @@ line_passed bytes from start line passed begun none =
     record {
       forward = omega arith;
       inside = begun.inside;
+      begins = λ more. elim (cases_eq (slice_index bytes (line.after - 1)) line_feed) [
+        | inl feed ↦ inr feed
+        | inr other ↦ absurd (let last = (begun.unended other).1 in omega arith)
+      ];
       lines = passed.lines ∙ begun.lines ∙ empty _ _ size;
       ended = passed.ended ∙ elim (cases_eq (slice_index bytes (line.after - 1)) line_feed) [
         | inl feed ↦ begun.ended feed ∙ empty _ _ size

@@ -1,3 +1,4 @@
+pub mod Joins
 pub mod Cuts
 pub mod Digits
 pub mod LineLaws

@@ -1,6 +1,6 @@
 -- A text that is cut into lines, and lines that are cut into fields.
-use Rattle.std.specs.Prelude.{◌≡◌, ◌≢◌, ℕ, ◌-◌, ◌≤◌, ◌==◌, not, List, [], ◌∷◌, length, map, take, drop, slice_index, slice_range, Option, Some, None}
-use Rattle.std.specs.List.{filter, slice_split}
+use Rattle.std.specs.Prelude.{◌≡◌, ◌≢◌, ◌⊎◌, ℕ, ◌-◌, ◌≤◌, ◌==◌, not, List, [], ◌∷◌, length, map, take, drop, slice_index, slice_range, Option, Some, None}
+use Rattle.std.specs.List.{Contains, filter, slice_split}
 use Rattle.std.specs.Str.Lines.{strip_carriage_return}
 use Rattle.lines.specs.declared.cutting.Line.{Line}
 
@@ -37,13 +37,18 @@ all_but_last pieces = take (length pieces - 1) pieces
 abbrev pub ended_lines_of : List ℕ → List (List ℕ)
 ended_lines_of text = lines_in (all_but_last (pieces_of line_feed text))
 
--- The first line from this place on: it stands between its start and its stop, with nothing but empty lines before it,
--- and the lines after it begin behind its end. It is ended by a line feed, or the text ends with it.
+-- The first line from this place on: it stands between its start and its stop, with nothing but empty lines before it. A
+-- line feed ends it, behind which the text goes on with the lines after it, or the text ends with it.
 pub record IsLineAt (bytes : List ℕ) (from : ℕ) (line : Line) : Type 0 where
   pub start : from ≤ line.start
   pub stop : line.start ≤ line.stop
   pub after : line.stop ≤ line.after
   pub inside : line.after ≤ length bytes
+  -- it begins at this place or behind a line feed, and what stands before it has no line
+  pub begins : (line.start ≡ from) ⊎ (slice_index bytes (line.start - 1) ≡ line_feed)
+  pub before : lines_of (slice_range bytes from line.start) ≡ []
+  -- no line feed is in it but the one that ends it
+  pub whole : ¬ Contains (slice_range bytes line.start (line.after - 1)) line_feed
   pub lines : lines_of (drop from bytes) ≡ slice_range bytes line.start line.stop ∷ lines_of (drop line.after bytes)
   -- it is among the lines that a line feed ends, where one stands before what follows it; else the text ends with it
   pub ended : slice_index bytes (line.after - 1) ≡ line_feed →
