@@ -40,3 +40,11 @@ pub channels-at : (parts : FileParts) (f : ℕ) (x : Stream) (list : List Stream
 channels-at parts f x list same l =
     ap (λ (streams : List Stream). channels (get_or streams f x).signal) same
     ∙ ap channels (sym (at-map (λ (s : Stream). s.signal) (streams_of parts) f x false l))
+
+-- a name among the channels of a feed's stream
+pub found-at : (parts : FileParts) (f : ℕ) (x : Stream) (list : List Stream) (name : List ℕ) → list ≡ streams_of parts →
+    f < length (streams_of parts) →
+    position (λ channel. bytes_eq channel name) (channels (get_or list f x).signal)
+    ≡ position (λ channel. bytes_eq channel name) (feed_channels parts f)
+found-at parts f x list name same l =
+    ap (λ (names : List (List ℕ)). position (λ channel. bytes_eq channel name) names) (channels-at parts f x list same l)

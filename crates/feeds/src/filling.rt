@@ -9,6 +9,7 @@ ghost use Rattle.feeds.specs.Window.{AnswersFilling, EndsRun, AnswersWindow};
 use crate::given::tubes_of;
 use crate::line::LAST_TICK;
 use crate::reader::FeedFault;
+use crate::span::Span;
 use crate::taken::Taken;
 use flow_edge::ReadUp;
 use plant::Plant;
@@ -21,20 +22,19 @@ fn fill(
     text: &ReadUp,
     taken: &mut Taken,
     tubes: &mut [Tube],
-    first: u32,
-    ticks: u32,
+    span: Span,
 ) -> Result<(), FeedFault>
     requires few { length text.now.bytes ≤ most_bytes }
     requires taken { IsTakenFor plant.now text.now.bytes taken.old }
-    requires some { 1 ≤ ticks }
-    requires inside { first + ticks ≤ plant.now.ticks }
-    requires tubes { tubes.old ≡ given_tubes plant.now first ticks }
-    ensures fills { AnswersFilling plant.now text.now first ticks taken.old taken.new tubes.new result }
+    requires some { 1 ≤ span.ticks }
+    requires inside { span.first + span.ticks ≤ plant.now.ticks }
+    requires tubes { tubes.old ≡ given_tubes plant.now span.first span.ticks }
+    ensures fills { AnswersFilling plant.now text.now span.first span.ticks taken.old taken.new tubes.new result }
     ensures taken { IsTakenFor plant.now text.now.bytes taken.new }
 {
     let _ = plant.parts();
-    for tick in 0..ticks {
-        taken.take_to(plant, text, first + tick)?;
+    for tick in 0..span.ticks {
+        taken.take_to(plant, text, span.first + tick)?;
         taken.held.cover(tubes, tick);
     }
     Ok(())
@@ -54,26 +54,25 @@ fn end_run(plant: &Plant, text: &ReadUp, taken: &mut Taken, end: u32) -> Result<
     Ok(())
 }
 
-/// The tubes of a window of `ticks` ticks from tick `first` on, by the records that were taken and those of the text that begin
+/// The tubes of a window over these ticks, by the records that were taken and those of the text that begin
 /// before its end. Where the run ends with it, all of the text is taken.
 pub(crate) fn window_tubes(
     alloc: Global,
     plant: &Plant,
     text: &ReadUp,
     taken: &mut Taken,
-    first: u32,
-    ticks: u32,
+    span: Span,
 ) -> Result<FeedTubes, FeedFault>
     requires few { length text.now.bytes ≤ most_bytes }
     requires taken { IsTakenFor plant.now text.now.bytes taken.old }
-    requires some { 1 ≤ ticks }
-    requires inside { first + ticks ≤ plant.now.ticks }
-    ensures fills { AnswersWindow plant.now text.now first ticks taken.old taken.new result }
+    requires some { 1 ≤ span.ticks }
+    requires inside { span.first + span.ticks ≤ plant.now.ticks }
+    ensures fills { AnswersWindow plant.now text.now span.first span.ticks taken.old taken.new result }
     ensures taken { IsTakenFor plant.now text.now.bytes taken.new }
 {
     let _ = plant.parts();
-    let mut tubes = tubes_of(alloc, plant, first, ticks)?;
-    fill(plant, text, taken, tubes.as_mut_slice(), first, ticks)?;
-    end_run(plant, text, taken, first + ticks)?;
+    let mut tubes = tubes_of(alloc, plant, span.first, span.ticks)?;
+    fill(plant, text, taken, tubes.as_mut_slice(), span)?;
+    end_run(plant, text, taken, span.first + span.ticks)?;
     Ok(FeedTubes::new(tubes))
 }

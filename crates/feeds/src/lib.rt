@@ -11,6 +11,7 @@ mod place;
 mod reader;
 mod record;
 mod records;
+mod span;
 mod taken;
 
 pub use given::given_tubes;

@@ -3,10 +3,12 @@
 ghost use Rattle.std.specs.Prelude.{◌≡◌, ◌≤◌, ◌+◌, None, IfSome};
 ghost use Rattle.flow_edge.specs.Faults.{Rose};
 ghost use Rattle.feeds.specs.Standing.{AreRecordsFor};
+ghost use Rattle.feeds.specs.Reader.{fault_of};
 ghost use Rattle.feeds.specs.Window.{GivesTubes};
 
 use crate::given::given_tubes;
 use crate::records::Records;
+use crate::span::Span;
 use flow_edge::Source;
 use plant::Plant;
 use std::alloc::{AllocError, Global};
@@ -121,14 +123,18 @@ impl FeedReader {
         }
         prove!(ticks <= plant.parts().ticks - first);
         self.asked = first + ticks;
-        match tubes_by(&mut self.records, alloc, plant, source, first, ticks) {
-            Ok(tubes) => Ok(tubes),
-            Err(fault) => {
-                self.fault = Some(fault);
-                Err(fault)
-            }
-        }
+        let span = Span { first, ticks };
+        let answer = tubes_by(&mut self.records, alloc, plant, source, span);
+        self.fault = fault_in(&answer);
+        answer
     }
+}
+
+/// The fault of an answer.
+fn fault_in(answer: &Result<FeedTubes, FeedFault>) -> Option<FeedFault>
+    ensures { result ≡ fault_of answer.now }
+{
+    answer.as_ref().err().copied()
 }
 
 /// The tubes of a window, by records where there are some.
@@ -137,13 +143,12 @@ fn tubes_by<E: Source>(
     alloc: Global,
     plant: &Plant,
     source: &mut E,
-    first: u32,
-    ticks: u32,
+    span: Span,
 ) -> Result<FeedTubes, FeedFault>
     requires records { IfSome records.old (AreRecordsFor plant.now) }
-    requires some { 1 ≤ ticks }
-    requires inside { first + ticks ≤ plant.now.ticks }
-    ensures gives { GivesTubes plant.now first ticks records.old (E.left source.old) records.new (E.left source.new) result }
+    requires some { 1 ≤ span.ticks }
+    requires inside { span.first + span.ticks ≤ plant.now.ticks }
+    ensures gives { GivesTubes plant.now span.first span.ticks records.old (E.left source.old) records.new (E.left source.new) result }
     ensures plain { records.old ≡ None → source.new ≡ source.old }
     ensures untold { E.left source.old ≡ None → E.left source.new ≡ None }
     ensures failed { result ≡ Err FeedFault.ReadFault → Rose (E.faults source.old) (E.faults source.new) }
@@ -151,7 +156,7 @@ fn tubes_by<E: Source>(
 {
     let _ = plant.parts();
     match records {
-        Some(records) => records.window(alloc, plant, source, first, ticks),
-        None => Ok(given_tubes(alloc, plant, first, ticks)?),
+        Some(records) => records.window(alloc, plant, source, span),
+        None => Ok(given_tubes(alloc, plant, span.first, span.ticks)?),
     }
 }

@@ -10,6 +10,7 @@ ghost use Rattle.feeds.specs.Window.{GivesIn};
 
 use crate::filling::window_tubes;
 use crate::reader::FeedFault;
+use crate::span::Span;
 use crate::taken::Taken;
 use flow_edge::{ReadEnd, ReadUp, Source, read_up};
 use plant::Plant;
@@ -66,19 +67,18 @@ impl Records {
         })
     }
 
-    /// The tubes of a window of `ticks` ticks from tick `first` on.
+    /// The tubes of a window over these ticks.
     pub fn window<E: Source>(
         &mut self,
         alloc: Global,
         plant: &Plant,
         source: &mut E,
-        first: u32,
-        ticks: u32,
+        span: Span,
     ) -> Result<FeedTubes, FeedFault>
         requires records { AreRecordsFor plant.now self.old }
-        requires some { 1 ≤ ticks }
-        requires inside { first + ticks ≤ plant.now.ticks }
-        ensures gives { GivesIn plant.now first ticks self.old (E.left source.old) self.new (E.left source.new) result }
+        requires some { 1 ≤ span.ticks }
+        requires inside { span.first + span.ticks ≤ plant.now.ticks }
+        ensures gives { GivesIn plant.now span.first span.ticks self.old (E.left source.old) self.new (E.left source.new) result }
         ensures records { AreRecordsFor plant.now self.new }
         ensures untold { E.left source.old ≡ None → E.left source.new ≡ None }
         ensures failed { result ≡ Err FeedFault.ReadFault → Rose (E.faults source.old) (E.faults source.new) }
@@ -86,7 +86,7 @@ impl Records {
     {
         let _ = plant.parts();
         let text = text_of(alloc, self.text.take(), source)?;
-        let tubes = window_tubes(alloc, plant, &text, &mut self.taken, first, ticks);
+        let tubes = window_tubes(alloc, plant, &text, &mut self.taken, span);
         self.text = Some(text);
         tubes
     }

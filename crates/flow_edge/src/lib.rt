@@ -17,7 +17,7 @@ pub use reading::{ReadEnd, ReadUp, read_up};
 pub use sink::{NullSink, Sink, WriteFault};
 pub use source::{NoSource, ReadFault, Source};
 pub use status::Status;
-pub use word::Word;
+pub use word::{Word, WordKind};
 
 #[cfg(test)]
 mod tests;

@@ -117,6 +117,29 @@ apart_front text n fails there =
     let no = fails k (omega (arith, there.1, size)) (omega (arith, there.1, size)) in
     absurd (grind (arith, no, same, there.2))
 
+-- what is kept of the first bytes from a place on begins there, before the lines behind it
+begins : (bytes : List ℕ) (start n after : ℕ) (kept : List ℕ) → n ≤ length (drop start bytes) →
+    kept ≡ strip_carriage_return (take n (drop start bytes)) → start + n ≤ after → start < after → after ≤ length bytes →
+    lines_of (drop start bytes) ≡ before_lines kept (lines_of (drop after bytes)) →
+    (slice_index bytes (after - 1) ≡ line_feed →
+    ended_lines_of (drop start bytes) ≡ before_lines kept (ended_lines_of (drop after bytes))) →
+    (slice_index bytes (after - 1) ≢ line_feed → (ended_lines_of (drop start bytes) ≡ []) × (after ≡ length bytes)) →
+    ¬ Contains (take (after - 1 - start) (drop start bytes)) line_feed →
+    BeginsLine bytes start (record { start = start; stop = start + length kept; after = after })
+begins bytes start n after kept within e behind further inside lines ended unended whole =
+    let kept_of = keeps bytes start n kept within e in
+    record {
+      start = refl;
+      stop = omega arith;
+      after = omega (arith, kept_of.least);
+      further = further;
+      inside = inside;
+      whole = whole;
+      lines = rw kept_of.range lines;
+      ended = λ feed. rw kept_of.range (ended feed);
+      unended = unended;
+    }
+
 pub begins_ended : (bytes : List ℕ) (start at : ℕ) (kept : List ℕ) → place_of line_feed (drop start bytes) ≡ Some at →
     kept ≡ strip_carriage_return (take at (drop start bytes)) →
     BeginsLine bytes start (record { start = start; stop = start + length kept; after = start + at + 1 })
@@ -127,20 +150,13 @@ begins_ended bytes start at kept found e =
     drop-drop (at + 1) start bytes ∙ ap (λ n. drop n bytes) (omega arith) in
     let cut : pieces_of line_feed rest ≡ take at rest ∷ pieces_of line_feed (drop (start + at + 1) bytes) =
     rw (← behind) (pieces_at line_feed rest at found) in
-    let kept_of = keeps bytes start at kept (omega arith) e in
     let size = length-drop start bytes in
     let apart : start + at + 1 - 1 - start ≡ at = omega arith in
-    record {
-      start = refl;
-      stop = omega arith;
-      after = omega (arith, kept_of.least);
-      further = omega arith;
-      inside = omega arith;
-      whole = rw (apart) (apart_front rest at (λ k before short. (position-Some _ rest at line_feed found).2 k before));
-      lines = rw (kept_of.range, e) (lines_before rest (take at rest) (drop (start + at + 1) bytes) cut);
-      ended = λ _. rw (kept_of.range, e) (ended_before rest (take at rest) (drop (start + at + 1) bytes) cut);
-      unended = λ other. absurd (other (feed_at bytes start at _ found refl));
-    }
+    begins bytes start at (start + at + 1) kept (omega arith) e (omega arith) (omega arith) (omega arith)
+    (rw e (lines_before rest (take at rest) (drop (start + at + 1) bytes) cut))
+    (λ _. rw e (ended_before rest (take at rest) (drop (start + at + 1) bytes) cut))
+    (λ other. absurd (other (feed_at bytes start at _ found refl)))
+    (rw (apart) (apart_front rest at (λ k before short. (position-Some _ rest at line_feed found).2 k before)))
 
 pub begins_unended : (bytes : List ℕ) (start : ℕ) (kept : List ℕ) → place_of line_feed (drop start bytes) ≡ None →
     kept ≡ strip_carriage_return (drop start bytes) → start < length bytes →
@@ -149,20 +165,13 @@ begins_unended bytes start kept none e more =
     let rest = drop start bytes in
     let size = length-drop start bytes in
     let whole : take (length rest) rest ≡ rest = take_all (length rest) rest (omega arith) in
-    let kept_of = keeps bytes start (length rest) kept (omega arith) (rw whole e) in
     let end : length bytes ≤ length bytes = omega arith in
     let cut = pieces_none line_feed rest none in
-    record {
-      start = refl;
-      stop = omega arith;
-      after = omega (arith, kept_of.least);
-      further = omega arith;
-      inside = omega arith;
-      whole = apart_front rest (length bytes - 1 - start) (λ k before short. none_within line_feed rest none k line_feed short);
-      lines = rw (kept_of.range, e, drop_all (length bytes) bytes end) (ap lines_in cut ∙ lines-cons rest []);
-      ended = λ feed. absurd (no_feed bytes start _ none (omega arith) (omega arith) feed);
-      unended = λ _. (ap (λ pieces. lines_in (all_but_last pieces)) cut, omega arith);
-    }
+    begins bytes start (length rest) (length bytes) kept (omega arith) (rw whole e) (omega arith) more (omega arith)
+    (rw (e, drop_all (length bytes) bytes end) (ap lines_in cut ∙ lines-cons rest []))
+    (λ feed. absurd (no_feed bytes start _ none (omega arith) (omega arith) feed))
+    (λ _. (ap (λ pieces. lines_in (all_but_last pieces)) cut, omega arith))
+    (apart_front rest (length bytes - 1 - start) (λ k before short. none_within line_feed rest none k line_feed short))
 
 pub full : (line : List ℕ) (lines : List (List ℕ)) → 0 < length line → before_lines line lines ≡ line ∷ lines
 full line lines some = grind arith

@@ -3,6 +3,9 @@
 
 ghost use Rattle.std.specs.Prelude.{◌≡◌, ◌<◌, length, slice_set, IfOk};
 
+mod bytes;
+
+pub use bytes::Bytes;
 use std::alloc::{AllocError, Global};
 use std::marker::Model;
 

@@ -1,19 +1,36 @@
 -- Names that are told apart by a number that can be read from each: its place.
-use Rattle.std.proofs.Common.{ℕ, zero, suc, ◌+◌, ◌<◌, ◌≤◌, ◌≡◌, ◌≢◌, Bool, true, false, List, [], ◌∷◌, length, map}
+use Rattle.std.proofs.Common.{ℕ, zero, suc, ◌+◌, ◌<◌, ◌≤◌, ◌≡◌, ◌≢◌, ◌==◌, ◌&&◌, Bool, true, false, List, [], ◌∷◌, ◌++◌, length, map}
 use Rattle.std.proofs.Common.{Some}
-use Rattle.std.proofs.Common.{arith, refl, ap, sym, ◌∙◌, add-zero, slice_index_or, Ok, take}
+use Rattle.std.proofs.Common.{arith, refl, ap, sym, subst, ◌∙◌, add-zero, zero-add, slice_index_or, Ok, take}
 use Rattle.std.specs.Str.{bytes_eq}
 use Rattle.std.specs.List.{list_any}
+use Rattle.std.proofs.lemmas.Bool.Decides.{Decides-eqb}
 use Rattle.std.proofs.lemmas.Slice.Eq.{bytes_eq-Decides}
 use Rattle.std.proofs.lemmas.List.{length-map}
 use Rattle.plant_streams.specs.Streams.{number_from}
 use Rattle.plant_streams.specs.declared.streams.Stream.{Stream}
 use Rattle.plant_checks.specs.Checks.{each, name_check}
+use Rattle.plant_gen.proofs.Below.{both}
 
 -- the code of each name is its place, counted from s
 abbrev pub AreCoded : (List ℕ → ℕ) → ℕ → List (List ℕ) → Type 0
 AreCoded code s [] = Unit {0}
 AreCoded code s (name ∷ rest) = (code name ≡ s) × AreCoded code (suc s) rest
+
+-- computed, of names before others
+abbrev pub are_coded : (List ℕ → ℕ) → ℕ → List (List ℕ) → Bool
+are_coded code s [] = true
+are_coded code s (name ∷ rest) = (code name == s) && are_coded code (suc s) rest
+
+pub are-coded : (code : List ℕ → ℕ) (s : ℕ) (names rest : List (List ℕ)) → are_coded code s names ≡ true →
+    AreCoded code (length names + s) rest → AreCoded code s (names ++ rest)
+are-coded code s [] rest e coded = subst (λ (n : ℕ). AreCoded code n rest) (zero-add s) coded
+are-coded code s (name ∷ names) rest e coded =
+    let b = both (code name == s) (are_coded code (suc s) names) e in
+    let next : suc (length names) + s ≡ length names + suc s = omega arith in (
+      (Decides-eqb (code name) s).0 b.0,
+      are-coded code (suc s) names rest b.1 (subst (λ (n : ℕ). AreCoded code n rest) next coded),
+    )
 
 not-true : (b : Bool) → ¬ (b ≡ true) → b ≡ false
 not-true true h = absurd (h refl)

@@ -3,13 +3,12 @@ use Rattle.std.proofs.Common.{ℕ, zero, suc, ◌+◌, ◌-◌, ◌*◌, ◌<◌
 use Rattle.std.proofs.Common.{refl, arith}
 use Rattle.std.proofs.Common.{nat_lt, nat_le, slice_index, subst, if◌then◌else◌, true}
 use Rattle.std.specs.Fmt.{digits}
-use Rattle.std.proofs.lemmas.Bool.Decides.{Decides-eqb}
 use Rattle.plant_streams.specs.Streams.{ports_of, unit_streams, streams_of}
 use Rattle.plant_checks.specs.Checks.{names_of}
 use Rattle.plant_gen.specs.Generated.{mixer_name, tank_name, splitter_name, output_name, generated_parts}
 use Rattle.plant_gen.proofs.Below.{passes-below}
 use Rattle.plant_gen.proofs.Stages.{stages}
-use Rattle.plant_gen.proofs.Coded.{AreCoded}
+use Rattle.plant_gen.proofs.Coded.{AreCoded, are_coded, are-coded}
 
 -- the number that the digits of a text write behind one that was read before
 digits_in : ℕ → List ℕ → ℕ
@@ -36,78 +35,33 @@ unit_code name = unit_place (slice_index name 0) + 3 * digits_in 0 name
 pub stream_code : List ℕ → ℕ
 stream_code name = stream_place (slice_index name 0) (last_of 0 name) + 5 * digits_in 0 name
 
+-- the names of the units of stage i, and of their outputs
+abbrev unit_names : ℕ → List (List ℕ)
+unit_names i = mixer_name i ∷ tank_name i ∷ splitter_name i ∷ []
+
+abbrev outputs : ℕ → List (List ℕ)
+outputs i =
+    output_name (mixer_name i) (codes "out") ∷ output_name (tank_name i) (codes "out")
+    ∷ output_name (tank_name i) (codes "level") ∷ output_name (splitter_name i) (codes "first")
+    ∷ output_name (splitter_name i) (codes "second") ∷ []
+
 -- computed for each stage
-computed : (f g : ℕ → ℕ) (i : ℕ) → (f i == g i) ≡ true → f i ≡ g i
-computed f g i e = (Decides-eqb (f i) (g i)).0 e
-
-mixer-code : (i : ℕ) → i < 80 → unit_code (mixer_name i) ≡ 2 + 3 * i
+units-tested : (i : ℕ) → i < 80 → are_coded unit_code (2 + 3 * i) (unit_names i) ≡ true
 unfolding unit_code unit_place digits_in digits
-mixer-code i h =
-    computed (λ j. unit_code (mixer_name j)) (λ j. 2 + 3 * j) i
-    (passes-below (λ j. unit_code (mixer_name j) == 2 + 3 * j) 80 i refl h)
+units-tested i = passes-below (λ j. are_coded unit_code (2 + 3 * j) (unit_names j)) 80 i refl
 
-tank-code : (i : ℕ) → i < 80 → unit_code (tank_name i) ≡ suc (2 + 3 * i)
-unfolding unit_code unit_place digits_in digits
-tank-code i h =
-    computed (λ j. unit_code (tank_name j)) (λ j. suc (2 + 3 * j)) i
-    (passes-below (λ j. unit_code (tank_name j) == suc (2 + 3 * j)) 80 i refl h)
-
-splitter-code : (i : ℕ) → i < 80 → unit_code (splitter_name i) ≡ suc (suc (2 + 3 * i))
-unfolding unit_code unit_place digits_in digits
-splitter-code i h =
-    computed (λ j. unit_code (splitter_name j)) (λ j. suc (suc (2 + 3 * j))) i
-    (passes-below (λ j. unit_code (splitter_name j) == suc (suc (2 + 3 * j))) 80 i refl h)
-
-output-code : (name : ℕ → List ℕ) (port : List ℕ) (place i : ℕ) →
-    (stream_code (output_name (name i) port) == place + 5 * i) ≡ true →
-    stream_code (output_name (name i) port) ≡ place + 5 * i
-output-code name port place i e = computed (λ j. stream_code (output_name (name j) port)) (λ j. place + 5 * j) i e
-
-mixer_out-code : (i : ℕ) → i < 80 → stream_code (output_name (mixer_name i) (codes "out")) ≡ 2 + 5 * i
+outputs-tested : (i : ℕ) → i < 80 → are_coded stream_code (2 + 5 * i) (outputs i) ≡ true
 unfolding stream_code stream_place last_of unit_place digits_in digits
-mixer_out-code i h =
-    output-code mixer_name (codes "out") 2 i
-    (passes-below (λ j. stream_code (output_name (mixer_name j) (codes "out")) == 2 + 5 * j) 80 i refl h)
-
-tank_out-code : (i : ℕ) → i < 80 → stream_code (output_name (tank_name i) (codes "out")) ≡ 3 + 5 * i
-unfolding stream_code stream_place last_of unit_place digits_in digits
-tank_out-code i h =
-    output-code tank_name (codes "out") 3 i
-    (passes-below (λ j. stream_code (output_name (tank_name j) (codes "out")) == 3 + 5 * j) 80 i refl h)
-
-tank_level-code : (i : ℕ) → i < 80 → stream_code (output_name (tank_name i) (codes "level")) ≡ 4 + 5 * i
-unfolding stream_code stream_place last_of unit_place digits_in digits
-tank_level-code i h =
-    output-code tank_name (codes "level") 4 i
-    (passes-below (λ j. stream_code (output_name (tank_name j) (codes "level")) == 4 + 5 * j) 80 i refl h)
-
-first-code : (i : ℕ) → i < 80 → stream_code (output_name (splitter_name i) (codes "first")) ≡ 5 + 5 * i
-unfolding stream_code stream_place last_of unit_place digits_in digits
-first-code i h =
-    output-code splitter_name (codes "first") 5 i
-    (passes-below (λ j. stream_code (output_name (splitter_name j) (codes "first")) == 5 + 5 * j) 80 i refl h)
-
-second-code : (i : ℕ) → i < 80 → stream_code (output_name (splitter_name i) (codes "second")) ≡ 6 + 5 * i
-unfolding stream_code stream_place last_of unit_place digits_in digits
-second-code i h =
-    output-code splitter_name (codes "second") 6 i
-    (passes-below (λ j. stream_code (output_name (splitter_name j) (codes "second")) == 6 + 5 * j) 80 i refl h)
+outputs-tested i = passes-below (λ j. are_coded stream_code (2 + 5 * j) (outputs j)) 80 i refl
 
 -- the names of the units, and those of feeds and units
 units-coded : (i k : ℕ) → i + k ≤ 80 → AreCoded unit_code (2 + 3 * i) (map (λ unit. unit.name) (stages i k))
 units-coded i zero h = tt
 units-coded i (suc k) h =
-    let e : 2 + 3 * (i + 1) ≡ suc (suc (suc (2 + 3 * i))) = omega arith in (
-      mixer-code i (omega arith),
-      (
-        tank-code i (omega arith),
-        (
-          splitter-code i (omega arith),
-          subst (λ (s : ℕ). AreCoded unit_code s (map (λ unit. unit.name) (stages (i + 1) k))) e
-              (units-coded (i + 1) k (omega arith)),
-        ),
-      ),
-    )
+    let rest : List (List ℕ) = map (λ unit. unit.name) (stages (i + 1) k) in
+    let e : 2 + 3 * (i + 1) ≡ 3 + (2 + 3 * i) = omega arith in
+    are-coded unit_code (2 + 3 * i) (unit_names i) rest (units-tested i (omega arith))
+    (subst (λ (s : ℕ). AreCoded unit_code s rest) e (units-coded (i + 1) k (omega arith)))
 
 pub names-coded : (n : ℕ) → n ≤ 80 → AreCoded unit_code 0 (names_of (generated_parts n))
 unfolding generated_parts unit_code unit_place digits_in
@@ -119,26 +73,10 @@ outputs-coded : (u i k : ℕ) → i + k ≤ 80 →
 unfolding ports_of
 outputs-coded u i zero h = tt
 outputs-coded u i (suc k) h =
-    let e : 2 + 5 * (i + 1) ≡ suc (suc (suc (suc (suc (2 + 5 * i))))) = omega arith in
-    let l : i < 80 = omega arith in (
-      mixer_out-code i l,
-      (
-        omega (arith, tank_out-code i l),
-        (
-          omega (arith, tank_level-code i l),
-          (
-            omega (arith, first-code i l),
-            (
-              omega (arith, second-code i l),
-              subst
-                  (λ (s : ℕ). AreCoded stream_code s
-                  (map (λ stream. stream.name) (unit_streams (suc (suc (suc u))) (stages (i + 1) k)))) e
-                  (outputs-coded (suc (suc (suc u))) (i + 1) k (omega arith)),
-            ),
-          ),
-        ),
-      ),
-    )
+    let rest : List (List ℕ) = map (λ stream. stream.name) (unit_streams (suc (suc (suc u))) (stages (i + 1) k)) in
+    let e : 2 + 5 * (i + 1) ≡ 5 + (2 + 5 * i) = omega arith in
+    are-coded stream_code (2 + 5 * i) (outputs i) rest (outputs-tested i (omega arith))
+    (subst (λ (s : ℕ). AreCoded stream_code s rest) e (outputs-coded (suc (suc (suc u))) (i + 1) k (omega arith)))
 
 pub streams-coded : (n : ℕ) → n ≤ 80 →
     AreCoded stream_code 0 (map (λ stream. stream.name) (streams_of (generated_parts n)))

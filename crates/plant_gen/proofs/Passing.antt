@@ -6,11 +6,12 @@ use Rattle.std.proofs.lemmas.Int.{ints}
 use Rattle.quant.specs.Interval.{point}
 use Rattle.parts.specs.Parts.{FileParts}
 use Rattle.parts.specs.InRange.{from_to}
+use Rattle.parts.specs.declared.units.UnitPart.{UnitPart}
 use Rattle.plant_streams.specs.Streams.{Reference, references_of, streams_of, number_of, gives_signal}
 use Rattle.plant_streams.specs.declared.streams.StreamSource.{StreamSource}
 use Rattle.plant_streams.specs.Limits.{limits_in}
 use Rattle.plant_checks.specs.Openings.{openings_of}
-use Rattle.plant_checks.specs.Checks.{each, source_check, source_refused, port_check, port_refused, same_bool}
+use Rattle.plant_checks.specs.Checks.{Checked, each, source_check, source_refused, port_check, port_refused, same_bool}
 use Rattle.plant_checks.specs.Checks.{is_outside}
 use Rattle.plant_checks.specs.Checks.{limits_check, own_limits_check, opening_check, feed_pieces_check, pieces_check}
 use Rattle.plant_checks.specs.Checks.{feed_inside_check, inside_check, channels_of, rate_check, rate_kind_check}
@@ -60,24 +61,27 @@ splitter-met : (n i : ℕ) → n ≤ 80 → i < n →
 unfolding references_of
 splitter-met n i few h = (record { from = _; read = tank-read n i few h }, tt)
 
+-- a check that a unit passes where its references are met
+met-pass : (check : ℕ → UnitPart → Checked) (n : ℕ) → n ≤ 80 →
+    ((u : ℕ) (unit : UnitPart) → AllByRecursion (IsMet (generated_parts n)) (references_of unit.kind) → check u unit ≡ Ok tt) →
+    each check 0 (stages 0 n) ≡ Ok tt
+met-pass check n few passes =
+    each-stages check n (λ u i h. passes u (mixer_of i) (mixer-met n i few h))
+    (λ u i h. passes u (tank_of i) (tank-met n i few h)) (λ u i h. passes u (splitter_of i) (splitter-met n i few h)) 0 0 n
+    (omega arith)
+
 sources-pass : (n : ℕ) → n ≤ 80 →
     each (source_check (streams_of (generated_parts n))) 0 (stages 0 n) ≡ Ok tt
 unfolding source_check
 sources-pass n few =
-    each-stages (source_check (streams_of (generated_parts n))) n
-    (λ u i h. sources-met (generated_parts n) u 0 (references_of (mixer_of i).kind) (mixer-met n i few h))
-    (λ u i h. sources-met (generated_parts n) u 0 (references_of (tank_of i).kind) (tank-met n i few h))
-    (λ u i h. sources-met (generated_parts n) u 0 (references_of (splitter_of i).kind) (splitter-met n i few h))
-    0 0 n (omega arith)
+    met-pass (source_check (streams_of (generated_parts n))) n few
+    (λ u unit. sources-met (generated_parts n) u 0 (references_of unit.kind))
 
 ports-pass : (n : ℕ) → n ≤ 80 → each (port_check (streams_of (generated_parts n))) 0 (stages 0 n) ≡ Ok tt
 unfolding port_check
 ports-pass n few =
-    each-stages (port_check (streams_of (generated_parts n))) n
-    (λ u i h. ports-met (generated_parts n) u 0 (references_of (mixer_of i).kind) (mixer-met n i few h))
-    (λ u i h. ports-met (generated_parts n) u 0 (references_of (tank_of i).kind) (tank-met n i few h))
-    (λ u i h. ports-met (generated_parts n) u 0 (references_of (splitter_of i).kind) (splitter-met n i few h))
-    0 0 n (omega arith)
+    met-pass (port_check (streams_of (generated_parts n))) n few
+    (λ u unit. ports-met (generated_parts n) u 0 (references_of unit.kind))
 
 own_limits-pass : (n : ℕ) → each own_limits_check 0 (stages 0 n) ≡ Ok tt
 unfolding own_limits_check

@@ -6,8 +6,8 @@ mod place;
 mod text;
 
 pub use names::{is_name, is_reference};
-pub use place::Place;
-pub use text::Text;
+pub use place::{Place, PlaceKind};
+pub use text::{Text, TextKind};
 
 #[cfg(test)]
 mod tests;

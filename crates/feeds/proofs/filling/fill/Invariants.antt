@@ -8,7 +8,7 @@ use Rattle.feeds.proofs.filling.fill.Given as goal
 abbrev pub invariant-loop-tick : goal.invariant-loop-tick
 invariant-loop-tick l = record {
   taken : IsTakenFor l.plant l.text.bytes l.taken;
-  takes : Takes l.plant l.text (l.first + l.tick) l.fn.taken l.taken;
-  come : 0 < l.tick → HasCome l.plant l.text (l.first + l.tick) l.taken;
-  filled : AreFilledBefore l.plant l.fn.taken.held (pending l.plant l.text l.fn.taken).records l.first l.ticks l.tick l.tubes;
+  takes : Takes l.plant l.text (l.span.first + l.tick) l.fn.taken l.taken;
+  come : 0 < l.tick → HasCome l.plant l.text (l.span.first + l.tick) l.taken;
+  filled : AreFilledBefore l.plant l.fn.taken.held (pending l.plant l.text l.fn.taken).records l.span.first l.span.ticks l.tick l.tubes;
 }

@@ -1,9 +1,9 @@
 -- The stream's channels are those of the feed.
-use Rattle.std.proofs.Common.{◌∙◌, ◌<◌, ℕ, List, length, get_or, position, bytes_eq, ap, sym, arith}
+use Rattle.std.proofs.Common.{◌∙◌, ◌<◌, length, get_or, bytes_eq, ap, sym, arith}
 use Rattle.tables.specs.Output.{channels}
 use Rattle.feeds.specs.Records.{channel_found}
 use Rattle.feeds.proofs.Accepted.{below, in-streams, channels-counted, small-channel}
-use Rattle.feeds.proofs.Places.{channels-at}
+use Rattle.feeds.proofs.Places.{channels-at, found-at}
 use Rattle.feeds.proofs.place.channel_of.Goals as goal
 
 pub bounds-streams-feed : goal.bounds-streams-feed
@@ -30,16 +30,12 @@ overflow_cast-result-in-Some c =
 
 pub returns-in-Some : goal.returns-in-Some
 returns-in-Some c =
-    let parts = c.args.plant.now in
-    let there = in-streams parts c.args.feed c.parts.ensures.plant c.requires in
-    ap (channel_found c.args.feed) (c.in-Some.ensures
-    ∙ ap (λ (names : List (List ℕ)). position (λ channel. bytes_eq channel c.args.name.now) names)
-    (channels-at parts c.args.feed c.index-streams-feed.result c.streams.result.now c.streams.ensures there))
+    let there = in-streams c.args.plant.now c.args.feed c.parts.ensures.plant c.requires in
+    ap (channel_found c.args.feed)
+    (c.in-Some.ensures ∙ found-at c.args.plant.now c.args.feed _ _ c.args.name.now c.streams.ensures there)
 
 pub returns-in-None : goal.returns-in-None
 returns-in-None c =
-    let parts = c.args.plant.now in
-    let there = in-streams parts c.args.feed c.parts.ensures.plant c.requires in
-    ap (channel_found c.args.feed) (c.in-None.ensures
-    ∙ ap (λ (names : List (List ℕ)). position (λ channel. bytes_eq channel c.args.name.now) names)
-    (channels-at parts c.args.feed c.index-streams-feed.result c.streams.result.now c.streams.ensures there))
+    let there = in-streams c.args.plant.now c.args.feed c.parts.ensures.plant c.requires in
+    ap (channel_found c.args.feed)
+    (c.in-None.ensures ∙ found-at c.args.plant.now c.args.feed _ _ c.args.name.now c.streams.ensures there)
