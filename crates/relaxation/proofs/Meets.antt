@@ -55,8 +55,7 @@ within-itself (A ∷ As) = (inside-itself A, within-itself As)
 
 -- and in what a wider tube lies in
 pub within-through : (A B C : Tube) → IsWithin A B → IsWithin B C → IsWithin A C
-within-through [] [] [] h k = tt
-within-through [] [] (C ∷ Cs) h k = absurd k
+within-through [] [] C h k = k
 within-through [] (B ∷ Bs) Cs h k = absurd h
 within-through (A ∷ As) [] Cs h k = absurd h
 within-through (A ∷ As) (B ∷ Bs) [] h k = absurd k
@@ -116,58 +115,41 @@ meet-wider [] B h = refl
 meet-wider (A ∷ As) [] h = absurd h
 meet-wider (A ∷ As) (B ∷ Bs) h = same_cons (meet_bands A B) A (meet As Bs) As (bands-wider A B h.0) (meet-wider As Bs h.1)
 
--- the meet of two lists of bands that hold a third holds it
-bands-holds : (Rs As Bs : List Interval) → AllInside Rs As → AllInside Rs Bs → AllInside Rs (meet_bands As Bs)
-unfolding meet-band
-bands-holds [] [] Bs h k = tt
-bands-holds [] (A ∷ As) Bs h k = absurd h
-bands-holds (R ∷ Rs) [] Bs h k = absurd h
-bands-holds (R ∷ Rs) (A ∷ As) [] h k = absurd k
-bands-holds (R ∷ Rs) (A ∷ As) (B ∷ Bs) h k = (band-holds R A B h.0 k.0, bands-holds Rs As Bs h.1 k.1)
+-- three facts of the first and of the rest
+all-three : {A B C D E F : Type 0} → A × B × C → D × E × F → (A × D) × (B × E) × (C × F)
+all-three first rest = ((first.0, rest.0), (first.1, rest.1), (first.2, rest.2))
 
--- and lies in the first
-bands-left : (Rs As Bs : List Interval) → AllInside Rs As → AllInside Rs Bs → AllInside (meet_bands As Bs) As
+-- the meet of two lists of bands that hold a third holds it, and lies in both
+bands-meet : (Rs As Bs : List Interval) → AllInside Rs As → AllInside Rs Bs →
+    AllInside Rs (meet_bands As Bs) × AllInside (meet_bands As Bs) As × AllInside (meet_bands As Bs) Bs
 unfolding meet-band
-bands-left [] [] Bs h k = tt
-bands-left [] (A ∷ As) Bs h k = absurd h
-bands-left (R ∷ Rs) [] Bs h k = absurd h
-bands-left (R ∷ Rs) (A ∷ As) [] h k = absurd k
-bands-left (R ∷ Rs) (A ∷ As) (B ∷ Bs) h k = (band-left A B, bands-left Rs As Bs h.1 k.1)
+bands-meet [] [] Bs h k = (tt, tt, k)
+bands-meet [] (A ∷ As) Bs h k = absurd h
+bands-meet (R ∷ Rs) [] Bs h k = absurd h
+bands-meet (R ∷ Rs) (A ∷ As) [] h k = absurd k
+bands-meet (R ∷ Rs) (A ∷ As) (B ∷ Bs) h k =
+    all-three (band-holds R A B h.0 k.0, band-left A B, band-right A B) (bands-meet Rs As Bs h.1 k.1)
 
--- and in the second
-bands-right : (Rs As Bs : List Interval) → AllInside Rs As → AllInside Rs Bs → AllInside (meet_bands As Bs) Bs
-unfolding meet-band
-bands-right [] [] [] h k = tt
-bands-right [] [] (B ∷ Bs) h k = absurd k
-bands-right [] (A ∷ As) Bs h k = absurd h
-bands-right (R ∷ Rs) [] Bs h k = absurd h
-bands-right (R ∷ Rs) (A ∷ As) [] h k = absurd k
-bands-right (R ∷ Rs) (A ∷ As) (B ∷ Bs) h k = (band-right A B, bands-right Rs As Bs h.1 k.1)
+-- so does the meet of two tubes
+tubes-meet : (R A B : Tube) → IsWithin R A → IsWithin R B →
+    IsWithin R (meet A B) × IsWithin (meet A B) A × IsWithin (meet A B) B
+tubes-meet [] [] B h k = (tt, tt, k)
+tubes-meet [] (A ∷ As) B h k = absurd h
+tubes-meet (R ∷ Rs) [] B h k = absurd h
+tubes-meet (R ∷ Rs) (A ∷ As) [] h k = absurd k
+tubes-meet (R ∷ Rs) (A ∷ As) (B ∷ Bs) h k = all-three (bands-meet R A B h.0 k.0) (tubes-meet Rs As Bs h.1 k.1)
 
--- the meet of two tubes that hold a third holds it
+-- it holds the third
 pub meet-holds : (R A B : Tube) → IsWithin R A → IsWithin R B → IsWithin R (meet A B)
-meet-holds [] [] B h k = tt
-meet-holds [] (A ∷ As) B h k = absurd h
-meet-holds (R ∷ Rs) [] B h k = absurd h
-meet-holds (R ∷ Rs) (A ∷ As) [] h k = absurd k
-meet-holds (R ∷ Rs) (A ∷ As) (B ∷ Bs) h k = (bands-holds R A B h.0 k.0, meet-holds Rs As Bs h.1 k.1)
+meet-holds R A B h k = (tubes-meet R A B h k).0
 
 -- and lies in the first
 pub meet-left : (R A B : Tube) → IsWithin R A → IsWithin R B → IsWithin (meet A B) A
-meet-left [] [] B h k = tt
-meet-left [] (A ∷ As) B h k = absurd h
-meet-left (R ∷ Rs) [] B h k = absurd h
-meet-left (R ∷ Rs) (A ∷ As) [] h k = absurd k
-meet-left (R ∷ Rs) (A ∷ As) (B ∷ Bs) h k = (bands-left R A B h.0 k.0, meet-left Rs As Bs h.1 k.1)
+meet-left R A B h k = (tubes-meet R A B h k).1
 
 -- and in the second
 pub meet-right : (R A B : Tube) → IsWithin R A → IsWithin R B → IsWithin (meet A B) B
-meet-right [] [] [] h k = tt
-meet-right [] [] (B ∷ Bs) h k = absurd k
-meet-right [] (A ∷ As) B h k = absurd h
-meet-right (R ∷ Rs) [] B h k = absurd h
-meet-right (R ∷ Rs) (A ∷ As) [] h k = absurd k
-meet-right (R ∷ Rs) (A ∷ As) (B ∷ Bs) h k = (bands-right R A B h.0 k.0, meet-right Rs As Bs h.1 k.1)
+meet-right R A B h k = (tubes-meet R A B h k).2
 
 -- what holds a band with a number has a number
 band-numbers : (A B : Interval) → IsBand A → IsInside A B → IsBand B
