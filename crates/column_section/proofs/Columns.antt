@@ -31,13 +31,13 @@ pub bands-length : (column : Column) (xs : List Interval) → AllInside xs (stat
 bands-length column xs h = inside-length xs (state_limits column) h ∙ limits-length column
 
 -- so each place before that number is there
-pub state-there : (column : Column) (xs : List ℤ) (n : ℕ) → AllHold (state_limits column) xs → n < column.stages + 4 →
+pub state_there : (column : Column) (xs : List ℤ) (n : ℕ) → AllHold (state_limits column) xs → n < column.stages + 4 →
     n < length xs
-state-there column xs n h k = omega (arith, states-length column xs h)
+state_there column xs n h k = omega (arith, states-length column xs h)
 
-pub band-there : (column : Column) (xs : List Interval) (n : ℕ) → AllInside xs (state_limits column) →
+pub band_there : (column : Column) (xs : List Interval) (n : ℕ) → AllInside xs (state_limits column) →
     n < column.stages + 4 → n < length xs
-band-there column xs n h k = omega (arith, bands-length column xs h)
+band_there column xs n h k = omega (arith, bands-length column xs h)
 
 -- each stage's conc lies where its limits may
 pub state-held : (column : Column) (xs : List ℤ) (i : ℕ) → IsSound column → AllHold (state_limits column) xs →

@@ -56,6 +56,7 @@ impl Kind for Column {
         self.register_band(ins, registers);
     }
 
+    #[tactic(auto, using(crate::proofs::Columns::state_there))]
     fn view_point(&self, state: &[i64], outs: &mut [i64]) {
         let stages = self.stages as usize;
         outs[0] = state[stages];
@@ -66,6 +67,7 @@ impl Kind for Column {
         outs[5] = state[stages + 3];
     }
 
+    #[tactic(auto, using(crate::proofs::Columns::band_there))]
     fn view_band(&self, state: &[Band], outs: &mut [Band]) {
         let stages = self.stages as usize;
         outs[0] = state[stages];

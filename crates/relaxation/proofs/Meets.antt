@@ -173,15 +173,19 @@ numbers-wider (A ∷ As) (B ∷ Bs) h k = (bands-numbers A B h.0 k.0, numbers-wi
 band_width : Interval → ℕ
 band_width B = nat_abs (B.hi -ℤ B.lo)
 
--- a band in another is no wider
-band-width_le : (A B : Interval) → IsBand A → IsInside A B → band_width A ≤ band_width B
+-- a band in another is no wider, and holds this if it is no narrower
+band-narrow : (A B : Interval) → IsBand A → IsInside A B →
+    (band_width A ≤ band_width B) × (band_width B ≤ band_width A → IsInside B A)
 unfolding band_width
-band-width_le A B h k = omega (arith, ints)
+band-narrow A B h k = (omega (arith, ints), λ m. record { above = omega (arith, ints); below = omega (arith, ints) })
 
--- and holds this if it is no narrower
-band-width_low : (A B : Interval) → IsBand A → IsInside A B → band_width B ≤ band_width A → IsInside B A
-unfolding band_width
-band-width_low A B h k m = record { above = omega (arith, ints); below = omega (arith, ints) }
+-- what is so of the first and of the rest is so of all
+all-narrow : {P Q : Type 0} (a b as bs m n : ℕ) → m ≡ a + as → n ≡ b + bs → (a ≤ b) × (b ≤ a → P) →
+    (as ≤ bs) × (bs ≤ as → Q) → (m ≤ n) × (n ≤ m → P × Q)
+all-narrow a b as bs m n e f first rest =
+    let p : a ≤ b = first.0 in
+    let q : as ≤ bs = rest.0 in
+    (omega arith, λ h. (first.1 (omega arith), rest.1 (omega arith)))
 
 -- the width of a list of bands
 bands_width : List Interval → ℕ
@@ -192,52 +196,31 @@ bands-width_cons : (B : Interval) (Bs : List Interval) → bands_width (B ∷ Bs
 unfolding band_width bands_width
 bands-width_cons B Bs = sum_by-cons (λ (A : Interval). nat_abs (A.hi -ℤ A.lo)) B Bs
 
--- bands in others are no wider
-bands-width_le : (As Bs : List Interval) → AllBands As → AllInside As Bs → bands_width As ≤ bands_width Bs
-bands-width_le [] [] h k = omega arith
-bands-width_le [] (B ∷ Bs) h k = absurd k
-bands-width_le (A ∷ As) [] h k = absurd k
-bands-width_le (A ∷ As) (B ∷ Bs) h k = omega (arith, bands-width_cons A As, bands-width_cons B Bs, band-width_le A B h.0 k.0, bands-width_le As Bs h.1 k.1)
-
--- and hold these if they are no narrower
-bands-width_low : (As Bs : List Interval) → AllBands As → AllInside As Bs → bands_width Bs ≤ bands_width As → AllInside Bs As
-bands-width_low [] [] h k m = tt
-bands-width_low [] (B ∷ Bs) h k m = absurd k
-bands-width_low (A ∷ As) [] h k m = absurd k
-bands-width_low (A ∷ As) (B ∷ Bs) h k m =
-    let p : band_width A ≤ band_width B = band-width_le A B h.0 k.0 in
-    let q : bands_width As ≤ bands_width Bs = bands-width_le As Bs h.1 k.1 in (
-      band-width_low A B h.0 k.0 (omega (arith, bands-width_cons A As, bands-width_cons B Bs)),
-      bands-width_low As Bs h.1 k.1 (omega (arith, bands-width_cons A As, bands-width_cons B Bs)),
-    )
+-- bands in others are no wider, and hold these if they are no narrower
+bands-narrow : (As Bs : List Interval) → AllBands As → AllInside As Bs →
+    (bands_width As ≤ bands_width Bs) × (bands_width Bs ≤ bands_width As → AllInside Bs As)
+bands-narrow [] [] h k = (omega arith, λ m. tt)
+bands-narrow [] (B ∷ Bs) h k = absurd k
+bands-narrow (A ∷ As) [] h k = absurd k
+bands-narrow (A ∷ As) (B ∷ Bs) h k = all-narrow _ _ _ _ _ _ (bands-width_cons A As) (bands-width_cons B Bs)
+    (band-narrow A B h.0 k.0) (bands-narrow As Bs h.1 k.1)
 
 -- the width at the first tick and the rest's
 width-cons : (B : List Interval) (Bs : Tube) → width (B ∷ Bs) ≡ bands_width B + width Bs
 unfolding bands_width
 width-cons B Bs = sum_by-cons (λ bands. sum_by (λ (A : Interval). nat_abs (A.hi -ℤ A.lo)) bands) B Bs
 
--- a tube in another is no wider
-width-le : (A B : Tube) → HasNumbers A → IsWithin A B → width A ≤ width B
-width-le [] [] h k = omega arith
-width-le [] (B ∷ Bs) h k = absurd k
-width-le (A ∷ As) [] h k = absurd k
-width-le (A ∷ As) (B ∷ Bs) h k = omega (arith, width-cons A As, width-cons B Bs, bands-width_le A B h.0 k.0, width-le As Bs h.1 k.1)
-
--- and holds this if it is no narrower
-width-low : (A B : Tube) → HasNumbers A → IsWithin A B → width B ≤ width A → IsWithin B A
-width-low [] [] h k m = tt
-width-low [] (B ∷ Bs) h k m = absurd k
-width-low (A ∷ As) [] h k m = absurd k
-width-low (A ∷ As) (B ∷ Bs) h k m =
-    let p : bands_width A ≤ bands_width B = bands-width_le A B h.0 k.0 in
-    let q : width As ≤ width Bs = width-le As Bs h.1 k.1 in (
-      bands-width_low A B h.0 k.0 (omega (arith, width-cons A As, width-cons B Bs)),
-      width-low As Bs h.1 k.1 (omega (arith, width-cons A As, width-cons B Bs)),
-    )
+-- so are tubes in others
+width-narrow : (A B : Tube) → HasNumbers A → IsWithin A B → (width A ≤ width B) × (width B ≤ width A → IsWithin B A)
+width-narrow [] [] h k = (omega arith, λ m. tt)
+width-narrow [] (B ∷ Bs) h k = absurd k
+width-narrow (A ∷ As) [] h k = absurd k
+width-narrow (A ∷ As) (B ∷ Bs) h k = all-narrow _ _ _ _ _ _ (width-cons A As) (width-cons B Bs)
+    (bands-narrow A B h.0 k.0) (width-narrow As Bs h.1 k.1)
 
 -- a strictly narrower tube with numbers has a lesser width
 pub width-falls : (A B : Tube) → HasNumbers A → IsNarrower A B → width A < width B
 width-falls A B h k = elim (cases_lt (width A) (width B)) [
   | inl l ↦ l
-  | inr l ↦ absurd (k.other (within-both A B k.within (width-low A B h k.within l)))
+  | inr l ↦ absurd (k.other (within-both A B k.within ((width-narrow A B h k.within).1 l)))
 ]

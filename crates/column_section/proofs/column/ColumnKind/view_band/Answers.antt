@@ -6,26 +6,11 @@ use Rattle.quant.specs.Hull.{hull1}
 use Rattle.quant.specs.Rounding.{Floor}
 use Rattle.quant.specs.Operation.{gain, clamp}
 use Rattle.quant.proofs.Calls.{filled, same_cons, read}
-use Rattle.column_section.proofs.Columns.{bands-length, band-there, state-inside}
+use Rattle.column_section.proofs.Columns.{bands-length, band_there, state-inside}
 use Rattle.column_section.proofs.column.ColumnKind.view_band.Goals as goal
 
-pub bounds-state-stages : goal.bounds-state-stages
-bounds-state-stages c = band-there c.args.self.now _ _ c.requires.states (omega (arith, c.requires.sound.some))
-
-pub bounds-state-stages-2 : goal.bounds-state-stages-2
-bounds-state-stages-2 c = band-there c.args.self.now _ _ c.requires.states (omega (arith, c.requires.sound.some))
-
-pub bounds-state-stages-3 : goal.bounds-state-stages-3
-bounds-state-stages-3 c = band-there c.args.self.now _ _ c.requires.states (omega (arith, c.requires.sound.some))
-
-pub bounds-state-stages-4 : goal.bounds-state-stages-4
-bounds-state-stages-4 c = band-there c.args.self.now _ _ c.requires.states (omega (arith, c.requires.sound.some))
-
 pub bounds-state-stages-5 : goal.bounds-state-stages-5
-bounds-state-stages-5 c = band-there c.args.self.now _ _ c.requires.states (omega (arith, c.requires.sound.some))
-
-pub bounds-state-0 : goal.bounds-state-0
-bounds-state-0 c = band-there c.args.self.now _ _ c.requires.states (omega (arith, c.requires.sound.some))
+bounds-state-stages-5 c = band_there c.args.self.now _ _ c.requires.states (omega (arith, c.requires.sound.some))
 
 pub gain_band-requires-clause-number : goal.gain_band-requires-clause-number
 gain_band-requires-clause-number c =

@@ -6,23 +6,11 @@ use Rattle.std.specs.Prelude.{slice_index_or}
 use Rattle.quant.specs.Rounding.{Floor}
 use Rattle.quant.specs.Operation.{gain, clamp}
 use Rattle.quant.proofs.Calls.{filled, same_cons, given1, given2}
-use Rattle.column_section.proofs.Columns.{state-there, state-held}
+use Rattle.column_section.proofs.Columns.{state_there, state-held}
 use Rattle.column_section.proofs.column.ColumnKind.view_point.Goals as goal
 
-pub bounds-state-stages : goal.bounds-state-stages
-bounds-state-stages c = state-there c.args.self.now _ _ c.requires.states (omega (arith, c.requires.sound.some))
-
-pub bounds-state-stages-2 : goal.bounds-state-stages-2
-bounds-state-stages-2 c = state-there c.args.self.now _ _ c.requires.states (omega (arith, c.requires.sound.some))
-
-pub bounds-state-stages-3 : goal.bounds-state-stages-3
-bounds-state-stages-3 c = state-there c.args.self.now _ _ c.requires.states (omega (arith, c.requires.sound.some))
-
-pub bounds-state-stages-4 : goal.bounds-state-stages-4
-bounds-state-stages-4 c = state-there c.args.self.now _ _ c.requires.states (omega (arith, c.requires.sound.some))
-
 pub bounds-state-stages-5 : goal.bounds-state-stages-5
-bounds-state-stages-5 c = state-there c.args.self.now _ _ c.requires.states (omega (arith, c.requires.sound.some))
+bounds-state-stages-5 c = state_there c.args.self.now _ _ c.requires.states (omega (arith, c.requires.sound.some))
 
 pub gain-requires-clause-number : goal.gain-requires-clause-number
 gain-requires-clause-number c =
