@@ -12,6 +12,10 @@ pub show-requires-clause-states : goal.show-requires-clause-states
 show-requires-clause-states c = (are_state_bands c.args.self.now.limits c.args.state.now c.requires.sound.limits
     c.requires.states).four
 
+pub bounds-state-3 : goal.bounds-state-3
+bounds-state-3 c =
+    let e = inside-length c.args.state.now (state_limits c.args.self.now) c.requires.states in omega arith
+
 pub returns : goal.returns
 returns c =
     let e = inside-length c.args.state.now (state_limits c.args.self.now) c.requires.states in
