@@ -180,11 +180,11 @@ unfolding band_width
 band-narrow A B h k = (omega (arith, ints), λ m. record { above = omega (arith, ints); below = omega (arith, ints) })
 
 -- what is so of the first and of the rest is so of all
-all-narrow : {P Q : Type 0} (a b as bs m n : ℕ) → m ≡ a + as → n ≡ b + bs → (a ≤ b) × (b ≤ a → P) →
-    (as ≤ bs) × (bs ≤ as → Q) → (m ≤ n) × (n ≤ m → P × Q)
-all-narrow a b as bs m n e f first rest =
+all-narrow : {P Q : Type 0} (a b c d m n : ℕ) → m ≡ a + c → n ≡ b + d → (a ≤ b) × (b ≤ a → P) →
+    (c ≤ d) × (d ≤ c → Q) → (m ≤ n) × (n ≤ m → P × Q)
+all-narrow a b c d m n e f first rest =
     let p : a ≤ b = first.0 in
-    let q : as ≤ bs = rest.0 in
+    let q : c ≤ d = rest.0 in
     (omega arith, λ h. (first.1 (omega arith), rest.1 (omega arith)))
 
 -- the width of a list of bands
