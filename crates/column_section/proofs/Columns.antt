@@ -11,6 +11,8 @@ use Rattle.quant.specs.Term.{Term, state, gain_of}
 use Rattle.quant.proofs.Calls.{held-length, inside-length}
 use Rattle.column_section.specs.declared.column.Column.{Column}
 use Rattle.column_section.specs.Column.{IsSound, stages_of, above, below, liquid, vapour, stage, state_limits, register_limits}
+use Rattle.column_section.specs.Column.{MayTake, MayTakeBands, input_limits}
+use Rattle.column_section.specs.Readings.{MayStep}
 use Rattle.column_section.specs.ColumnLaws.{stage-limits}
 
 -- how many states there are
@@ -26,6 +28,22 @@ states_long column xs h = held-length (state_limits column) xs h ∙ limits-leng
 
 pub bands_long : (column : Column) (xs : List Interval) → AllInside xs (state_limits column) → length xs ≡ column.stages + 4
 bands_long column xs h = inside-length xs (state_limits column) h ∙ limits-length column
+
+-- and inputs, so a step may be made from rows of numbers or of bands
+pub step-numbers : (column : Column) (states ins : List ℤ) → IsSound column → AllHold (state_limits column) states →
+    MayTake column ins → MayStep AllHold MayTake column states ins
+step-numbers column states ins sound h t = record {
+  sound = sound;
+  states = h;
+  inputs = t;
+  count = states_long column states h;
+  six = held-length input_limits ins t.held;
+}
+
+pub step-bands : (column : Column) (states ins : List Interval) → IsSound column → AllInside states (state_limits column) →
+    MayTakeBands column ins → MayStep (λ As Bs. AllInside Bs As) MayTakeBands column states ins
+step-bands column states ins sound h t =
+    record { sound = sound; states = h; inputs = t; count = bands_long column states h; six = inside-length ins input_limits t.held }
 
 -- each stage's conc lies where its limits may
 pub state-lies : {X : Type 0} (lies : Interval → X → Type 0) →

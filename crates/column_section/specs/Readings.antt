@@ -1,6 +1,6 @@
 -- Words of the proofs: a reader of the contracts needs none of them.
 -- What is read from rows of numbers and of bands.
-use Rattle.std.proofs.Common.{◌≡◌, ℕ, ◌<◌, ℤ, pos, List, length, get_or, sym, subst, ◌∙◌, arith}
+use Rattle.std.proofs.Common.{◌≡◌, ℕ, ◌+◌, ◌<◌, ℤ, pos, List, length, get_or, sym, subst, ◌∙◌, arith}
 use Rattle.std.proofs.lemmas.List.{get_or_default}
 use Rattle.std.specs.Prelude.{slice_index_or}
 use Rattle.quant.specs.Interval.{Interval, Holds, IsInside, AllHold, AllInside, point}
@@ -9,7 +9,16 @@ use Rattle.quant.proofs.Calls.{held-length, inside-length, read, read-inside}
 use Rattle.quant.proofs.Hulls.{inside-holds}
 use Rattle.quant.proofs.Terms.{place-holds, place-inside}
 use Rattle.column_section.specs.declared.column.Column.{Column}
-use Rattle.column_section.specs.Column.{MayTake, MayTakeBands, input_limits}
+use Rattle.column_section.specs.Column.{IsSound, MayTake, MayTakeBands, state_limits, input_limits}
+
+-- a step may be made from these states and inputs, of which each lies where it may
+pub record MayStep {X : Type 0} (all_lie_in : List Interval → List X → Type 0) (may_take : Column → List X → Type 0)
+    (column : Column) (state ins : List X) : Type 0 where
+  pub sound : IsSound column
+  pub states : all_lie_in (state_limits column) state
+  pub inputs : may_take column ins
+  pub count : length state ≡ column.stages + 4
+  pub six : length ins ≡ 6
 
 pub number-at : (xs : List ℤ) (n : ℕ) (x : ℤ) → n < length xs → x ≡ get_or xs n x → x ≡ slice_index_or xs n (pos 0)
 number-at xs n x h e = e ∙ get_or_default xs n x (pos 0) h

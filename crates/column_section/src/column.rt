@@ -3,6 +3,7 @@ ghost use Rattle.quant.specs.Interval.{wide};
 ghost use Rattle.quant.specs.Operation.{contents};
 ghost use Rattle.quant.specs.Ports.{outputs};
 ghost use Rattle.column_section.specs.Column.{IsSound, above, below, stage, stages_of, registers, view_terms, state_limits};
+ghost use Rattle.column_section.specs.Readings.{MayStep};
 
 use crate::reading::Reading;
 use quant::{Band, Kind, Limits};
@@ -74,9 +75,7 @@ impl Kind for Column {
 impl Column {
     /// The conc of stage `i` at the next tick.
     fn stage<R: Reading>(&self, state: &[R], ins: &[R], i: usize) -> R
-        requires sound { IsSound self.now }
-        requires states { R.all_lie_in (state_limits self.now) state.now }
-        requires inputs { R.may_take self.now ins.now }
+        requires step { MayStep R.all_lie_in R.may_take self.now state.now ins.now }
         requires stage { i < self.now.stages }
         ensures { result ≡ R.read state.now ins.now (stage self.now i) }
     {
@@ -88,9 +87,7 @@ impl Column {
 
     /// The conc of the liquid that comes to stage `i`.
     fn above<R: Reading>(&self, state: &[R], ins: &[R], i: usize) -> R
-        requires sound { IsSound self.now }
-        requires states { R.all_lie_in (state_limits self.now) state.now }
-        requires inputs { R.may_take self.now ins.now }
+        requires step { MayStep R.all_lie_in R.may_take self.now state.now ins.now }
         requires stage { i < self.now.stages }
         ensures value { result ≡ R.read state.now ins.now (above i) }
         ensures size { R.lies_in wide result }
@@ -100,9 +97,7 @@ impl Column {
 
     /// The conc of the vapour that comes to stage `i`.
     fn below<R: Reading>(&self, state: &[R], ins: &[R], i: usize) -> R
-        requires sound { IsSound self.now }
-        requires states { R.all_lie_in (state_limits self.now) state.now }
-        requires inputs { R.may_take self.now ins.now }
+        requires step { MayStep R.all_lie_in R.may_take self.now state.now ins.now }
         requires stage { i < self.now.stages }
         ensures value { result ≡ R.read state.now ins.now (below self.now i) }
         ensures size { R.lies_in contents result }
@@ -116,9 +111,7 @@ impl Column {
 
     /// Makes the conc of each stage at the next tick.
     fn fill<R: Reading>(&self, state: &[R], ins: &[R], contents: &mut [R])
-        requires sound { IsSound self.now }
-        requires states { R.all_lie_in (state_limits self.now) state.now }
-        requires inputs { R.may_take self.now ins.now }
+        requires step { MayStep R.all_lie_in R.may_take self.now state.now ins.now }
         requires room { length contents.old ≡ self.now.stages }
         ensures { contents.new ≡ map (R.read state.now ins.now) (map (stage self.now) (stages_of self.now)) }
     {

@@ -96,15 +96,8 @@ impl Reading for i64 {
     ghost may_take = { MayTake };
 
     fn stirred(self, above: i64, below: i64, liquid: i64, vapour: i64, column: &Column) -> i64 {
-        tray(
-            self,
-            above,
-            below,
-            liquid,
-            vapour,
-            column.holdup,
-            column.slope,
-        )
+        let (holdup, slope) = (column.holdup, column.slope);
+        tray(self, above, below, liquid, vapour, holdup, slope)
     }
 
     ghost at_state = { λ states _. number-at states };
@@ -152,15 +145,8 @@ impl Reading for Band {
         vapour: Band,
         column: &Column,
     ) -> Band {
-        tray_band(
-            self,
-            above,
-            below,
-            liquid,
-            vapour,
-            column.holdup,
-            column.slope,
-        )
+        let (holdup, slope) = (column.holdup, column.slope);
+        tray_band(self, above, below, liquid, vapour, holdup, slope)
     }
 
     ghost at_state = { λ states _. read states };

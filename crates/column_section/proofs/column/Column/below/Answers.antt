@@ -6,40 +6,18 @@ use Rattle.quant.specs.Interval.{wide}
 use Rattle.quant.specs.Operation.{contents}
 use Rattle.quant.specs.Term.{state, gain_of}
 use Rattle.column_section.specs.Column.{state_limits, input_limits}
-use Rattle.column_section.proofs.Columns.{limits-length, state-lies, below-middle, below-last}
+use Rattle.column_section.proofs.Columns.{state-lies, below-middle, below-last}
 use Rattle.column_section.proofs.column.Column.below.Goals as goal
-
-pub offset_bounds-state-i : goal.offset_bounds-state-i
-offset_bounds-state-i g c =
-    let n = g.met.R.Reading.long (state_limits c.args.self.now) _ c.requires.states ∙ limits-length c.args.self.now in
-    omega (arith, c.if-i-self.true)
-
-pub bounds-state-i : goal.bounds-state-i
-bounds-state-i g c =
-    let n = g.met.R.Reading.long (state_limits c.args.self.now) _ c.requires.states ∙ limits-length c.args.self.now in
-    omega (arith, c.if-i-self.true)
-
-pub scale_in_slice-result : goal.scale_in_slice-result
-scale_in_slice-result g c =
-    let e = g.met.R.Reading.long input_limits _ (g.met.R.Reading.takes _ _ c.requires.inputs) in
-    omega arith
-
-pub bounds-ins-4 : goal.bounds-ins-4
-bounds-ins-4 g c =
-    let e = g.met.R.Reading.long input_limits _ (g.met.R.Reading.takes _ _ c.requires.inputs) in
-    omega arith
 
 pub gained-requires-clause-number : goal.gained-requires-clause-number
 gained-requires-clause-number g c =
-    let n = g.met.R.Reading.long (state_limits c.args.self.now) _ c.requires.states ∙ limits-length c.args.self.now in
-    state-lies g.R.Reading.lies_in g.met.R.Reading.wider c.args.self.now (c.args.i + 1) _ c.requires.sound c.if-i-self.true
-    (g.met.R.Reading.placed (state_limits c.args.self.now) c.args.state.now (c.args.i + 1) _ c.requires.states
+    state-lies g.R.Reading.lies_in g.met.R.Reading.wider c.args.self.now (c.args.i + 1) _ c.requires.step.sound c.if-i-self.true
+    (g.met.R.Reading.placed (state_limits c.args.self.now) c.args.state.now (c.args.i + 1) _ c.requires.step.states
     (omega (arith, c.if-i-self.true)) c.index-state-i.is)
 
 pub returns-then-i-self-clause-value : goal.returns-then-i-self-clause-value
 returns-then-i-self-clause-value g c =
     let column = c.args.self.now in
-    let n = g.met.R.Reading.long (state_limits column) _ c.requires.states ∙ limits-length column in
     c.gained.ensures.value c.args.state.now c.args.ins.now (state (c.args.i + 1))
     (g.met.R.Reading.at_state c.args.state.now c.args.ins.now (c.args.i + 1) _ (omega (arith, c.if-i-self.true))
     c.index-state-i.is)
@@ -49,13 +27,11 @@ returns-then-i-self-clause-value g c =
 
 pub returns-else-i-self-clause-value : goal.returns-else-i-self-clause-value
 returns-else-i-self-clause-value g c =
-    let e = g.met.R.Reading.long input_limits _ (g.met.R.Reading.takes _ _ c.requires.inputs) in
     g.met.R.Reading.at_input c.args.state.now c.args.ins.now 4 _ (omega arith) c.index-ins-4.is
     ∙ sym (ap (g.R.Reading.read c.args.state.now c.args.ins.now) (below-last c.args.self.now c.args.i c.if-i-self.false))
 
 pub returns-else-i-self-clause-size : goal.returns-else-i-self-clause-size
 returns-else-i-self-clause-size g c =
-    let e = g.met.R.Reading.long input_limits _ (g.met.R.Reading.takes _ _ c.requires.inputs) in
     g.met.R.Reading.wider wide contents _
-    (g.met.R.Reading.placed input_limits c.args.ins.now 4 _ (g.met.R.Reading.takes _ _ c.requires.inputs)
+    (g.met.R.Reading.placed input_limits c.args.ins.now 4 _ (g.met.R.Reading.takes _ _ c.requires.step.inputs)
     (omega arith) c.index-ins-4.is) (record { above = omega (arith, ints); below = omega (arith, ints) })

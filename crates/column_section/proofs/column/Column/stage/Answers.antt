@@ -1,53 +1,29 @@
 -- Each call gives what its term is, from the innermost outward.
-use Rattle.std.proofs.Common.{◌∙◌, arith}
+use Rattle.std.proofs.Common.{arith}
 use Rattle.quant.specs.Term.{state, input, tray_of}
 use Rattle.column_section.specs.Column.{above, below, state_limits, input_limits}
-use Rattle.column_section.proofs.Columns.{limits-length, state-lies}
+use Rattle.column_section.proofs.Columns.{state-lies}
 use Rattle.column_section.proofs.column.Column.stage.Goals as goal
-
-pub offset_bounds-state-i : goal.offset_bounds-state-i
-offset_bounds-state-i g c =
-    let n = g.met.R.Reading.long (state_limits c.args.self.now) _ c.requires.states ∙ limits-length c.args.self.now in
-    omega (arith, c.requires.stage)
-
-pub bounds-state-i : goal.bounds-state-i
-bounds-state-i g c =
-    let n = g.met.R.Reading.long (state_limits c.args.self.now) _ c.requires.states ∙ limits-length c.args.self.now in
-    omega (arith, c.requires.stage)
-
-pub bounds-ins-0 : goal.bounds-ins-0
-bounds-ins-0 g c =
-    let e = g.met.R.Reading.long input_limits _ (g.met.R.Reading.takes _ _ c.requires.inputs) in
-    omega arith
-
-pub bounds-ins-3 : goal.bounds-ins-3
-bounds-ins-3 g c =
-    let e = g.met.R.Reading.long input_limits _ (g.met.R.Reading.takes _ _ c.requires.inputs) in
-    omega arith
 
 pub stirred-mixed-requires : goal.stirred-mixed-requires
 stirred-mixed-requires g c =
     let column = c.args.self.now in
-    let held = g.met.R.Reading.takes _ _ c.requires.inputs in
-    let e = g.met.R.Reading.long input_limits _ held in
-    let n = g.met.R.Reading.long (state_limits column) _ c.requires.states ∙ limits-length column in
+    let held = g.met.R.Reading.takes _ _ c.requires.step.inputs in
     record {
-      sound = c.requires.sound;
-      own = state-lies g.R.Reading.lies_in g.met.R.Reading.wider column c.args.i _ c.requires.sound c.requires.stage
-          (g.met.R.Reading.placed (state_limits column) c.args.state.now c.args.i _ c.requires.states
+      sound = c.requires.step.sound;
+      own = state-lies g.R.Reading.lies_in g.met.R.Reading.wider column c.args.i _ c.requires.step.sound c.requires.stage
+          (g.met.R.Reading.placed (state_limits column) c.args.state.now c.args.i _ c.requires.step.states
           (omega (arith, c.requires.stage)) c.index-state-i.is);
       above = c.above-above.ensures.size;
       below = c.below-below.ensures.size;
       liquid = g.met.R.Reading.placed input_limits c.args.ins.now 0 _ held (omega arith) c.index-ins-0.is;
       vapour = g.met.R.Reading.placed input_limits c.args.ins.now 3 _ held (omega arith) c.index-ins-3.is;
-      drainable = g.met.R.Reading.drained column c.args.ins.now _ _ c.requires.inputs c.index-ins-0.is c.index-ins-3.is;
+      drainable = g.met.R.Reading.drained column c.args.ins.now _ _ c.requires.step.inputs c.index-ins-0.is c.index-ins-3.is;
     }
 
 pub returns : goal.returns
 returns g c =
     let column = c.args.self.now in
-    let e = g.met.R.Reading.long input_limits _ (g.met.R.Reading.takes _ _ c.requires.inputs) in
-    let n = g.met.R.Reading.long (state_limits column) _ c.requires.states ∙ limits-length column in
     c.clamped.ensures c.args.state.now c.args.ins.now
     (tray_of column.holdup column.slope (state c.args.i) (above c.args.i) (below column c.args.i) (input 0) (input 3))
     (c.stirred-mixed.ensures c.args.state.now c.args.ins.now (state c.args.i) (above c.args.i) (below column c.args.i)
