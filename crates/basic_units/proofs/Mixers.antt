@@ -8,7 +8,7 @@ use Rattle.quant.specs.Hull.{hull2, hull4, IsHull, IsValue2}
 use Rattle.quant.specs.Rounding.{Floor}
 use Rattle.quant.specs.Operation.{mix}
 use Rattle.quant.specs.Term.{value, interval}
-use Rattle.quant.proofs.Calls.{read-inside, inside-length}
+use Rattle.quant.proofs.Calls.{read-inside, inside-length, held-length}
 use Rattle.quant.proofs.Terms.{place-holds, place-inside}
 use Rattle.basic_units.specs.Mixer.{flow_of, content_of, streams}
 
@@ -80,8 +80,11 @@ channels-held n i ins h k = record {
 }
 
 -- and their places are there
-pub channel-room : (n i channel count : ℕ) → count ≡ length (streams n) → i < n → channel < 3 → 3 * i + channel < count
-channel-room n i c count e k l = omega (arith, streams-length n)
+pub streams_held : (n : ℕ) (ins : List ℤ) → AllHold (streams n) ins → length ins ≡ 3 * n
+streams_held n ins h = held-length (streams n) ins h ∙ streams-length n
+
+pub streams_inside : (n : ℕ) (ins : List Interval) → AllInside ins (streams n) → length ins ≡ 3 * n
+streams_inside n ins h = inside-length ins (streams n) h ∙ streams-length n
 
 -- the flows of n streams together
 abbrev pub flows_of : ℕ → Interval

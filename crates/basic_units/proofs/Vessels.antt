@@ -1,6 +1,7 @@
 -- What the rows of a tank or a reactor hold, as far as a vessel's steps need it.
-use Rattle.std.proofs.Common.{◌≡◌, ℤ, List, [], ◌∷◌, ◌++◌, set, length, refl, ap, ◌∙◌, arith}
+use Rattle.std.proofs.Common.{◌≡◌, ◌<◌, ℕ, ℤ, List, [], ◌∷◌, ◌++◌, set, length, get_or, refl, ap, ◌∙◌, arith}
 use Rattle.std.specs.Prelude.{pos}
+use Rattle.std.proofs.lemmas.List.{get_or_default}
 use Rattle.quant.specs.declared.limits.Limits.{Limits}
 use Rattle.quant.specs.Interval.{Interval, AllHold, AllInside, wide}
 use Rattle.quant.specs.Limits.{AreLimits, wide_from}
@@ -57,6 +58,10 @@ are_input_bands rest ins h =
       conc = place-inside ins (inputs_before rest) 1 h;
       temp = place-inside ins (inputs_before rest) 2 h;
     }
+
+-- what was read within a row, whatever would stand behind it
+pub read-any : {X : Type 0} (xs : List X) (i : ℕ) (r none : X) → i < length xs → r ≡ get_or xs i r → r ≡ get_or xs i none
+read-any xs i r none h e = e ∙ get_or_default xs i r none h
 
 -- a row that is filled, and one more thing behind it
 pub appended : {X : Type 0} (xs ys back : List X) (v w : X) → xs ≡ ys → length back ≡ 1 → v ≡ w →

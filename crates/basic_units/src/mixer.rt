@@ -26,6 +26,7 @@ impl Instant for Mixer {
 
     ghost now_terms = { λ mixer. outputs (now_terms mixer) };
 
+    #[tactic(auto, using(crate::proofs::Mixers::streams_held))]
     fn now_point(&self, ins: &[i64], outs: &mut [i64]) {
         let mut flow = ins[0];
         let mut conc = ins[1];
@@ -41,6 +42,7 @@ impl Instant for Mixer {
         outs[2] = clamp(temp, self.limits.temp);
     }
 
+    #[tactic(auto, using(crate::proofs::Mixers::streams_inside))]
     fn now_band(&self, ins: &[Band], outs: &mut [Band]) {
         let mut flow = ins[0];
         let mut conc = ins[1];

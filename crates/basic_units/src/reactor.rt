@@ -1,4 +1,4 @@
-use crate::vessel::{Contents, put_band, put_point, show_band, show_point, stir_band, stir_point};
+use crate::vessel::{Contents, put, show, stir_band, stir_point};
 use quant::{
     Band, Kind, Limits, MILLION, RateTable, add, add_band, blend, blend_band, clamp, clamp_band,
     gain, gain_band, keep, keep_band, lookup, lookup_band, share, share_band,
@@ -54,7 +54,7 @@ impl Kind for Reactor {
             conc: keep(stirred.conc, rate),
             temp: blend(heated, ins[4], self.ua, MILLION),
         };
-        put_point(&next, &self.limits, new);
+        put(&next, &self.limits, new);
     }
 
     fn next_band(&self, state: &[Band], ins: &[Band], new: &mut [Band]) {
@@ -70,18 +70,18 @@ impl Kind for Reactor {
             conc: keep_band(stirred.conc, rate),
             temp: blend_band(heated, ins[4], Band::point(self.ua), Band::point(MILLION)),
         };
-        put_band(&next, &self.limits, new);
+        put(&next, &self.limits, new);
     }
 
     fn view_point(&self, state: &[i64], outs: &mut [i64]) {
         let (shown, temp) = outs.split_at_mut(4);
-        show_point(state, &self.limits, shown);
+        show(state, &self.limits, shown);
         temp[0] = clamp(state[3], self.limits.signal);
     }
 
     fn view_band(&self, state: &[Band], outs: &mut [Band]) {
         let (shown, temp) = outs.split_at_mut(4);
-        show_band(state, &self.limits, shown);
+        show(state, &self.limits, shown);
         temp[0] = clamp_band(state[3], self.limits.signal);
     }
 

@@ -1,4 +1,4 @@
-use crate::vessel::{put_band, put_point, show_band, show_point, stir_band, stir_point};
+use crate::vessel::{put, show, stir_band, stir_point};
 use quant::{Band, Kind, Limits};
 
 /// A stirred tank that drains through a valve.
@@ -35,19 +35,19 @@ impl Kind for Tank {
     ghost view_terms = { λ tank. outputs (view_terms tank) };
 
     fn next_point(&self, state: &[i64], ins: &[i64], new: &mut [i64]) {
-        put_point(&stir_point(self.k, state, ins), &self.limits, new);
+        put(&stir_point(self.k, state, ins), &self.limits, new);
     }
 
     fn next_band(&self, state: &[Band], ins: &[Band], new: &mut [Band]) {
-        put_band(&stir_band(self.k, state, ins), &self.limits, new);
+        put(&stir_band(self.k, state, ins), &self.limits, new);
     }
 
     fn view_point(&self, state: &[i64], outs: &mut [i64]) {
-        show_point(state, &self.limits, outs);
+        show(state, &self.limits, outs);
     }
 
     fn view_band(&self, state: &[Band], outs: &mut [Band]) {
-        show_band(state, &self.limits, outs);
+        show(state, &self.limits, outs);
     }
 
     ghost next_limited = { next-limited };

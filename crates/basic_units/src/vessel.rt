@@ -1,10 +1,10 @@
-ghost use Rattle.std.specs.Prelude.{◌≡◌, [], ◌∷◌, ◌++◌, length};
-ghost use Rattle.quant.specs.Interval.{Holds, IsBand, IsInside, wide};
+ghost use Rattle.std.specs.Prelude.{◌≡◌, ◌≤◌, [], ◌∷◌, length, get_or};
+ghost use Rattle.quant.specs.Interval.{Interval, Holds, IsBand, IsInside, wide};
 ghost use Rattle.quant.specs.Hull.{hull1};
 ghost use Rattle.quant.specs.Rounding.{Floor};
 ghost use Rattle.quant.specs.Operation.{clamp, ppm};
-ghost use Rattle.quant.specs.Term.{value, interval, values, intervals};
-ghost use Rattle.basic_units.specs.Vessel.{volume_after, outflow, blended, warmed, stream_out, level};
+ghost use Rattle.quant.specs.Term.{value, interval};
+ghost use Rattle.basic_units.specs.Vessel.{volume_after, outflow, blended, warmed};
 ghost use Rattle.basic_units.specs.Stirring.{AreStates, AreInputs, AreStateBands, AreInputBands};
 
 use quant::{
@@ -64,50 +64,52 @@ pub(crate) fn stir_band(k: i64, state: &[Band], ins: &[Band]) -> Contents<Band>
     }
 }
 
-/// Puts the contents into the row of states, each clamped by its limits.
-pub(crate) fn put_point(contents: &Contents<i64>, limits: &Limits, new: &mut [i64])
-    requires { length new.old ≡ 4 }
-    ensures { new.new ≡ clamp limits.now.volume contents.now.volume ∷ clamp limits.now.flow contents.now.flow
-        ∷ clamp limits.now.conc contents.now.conc ∷ clamp limits.now.temp contents.now.temp ∷ [] }
-{
-    new[0] = clamp(contents.volume, limits.volume);
-    new[1] = clamp(contents.flow, limits.flow);
-    new[2] = clamp(contents.conc, limits.conc);
-    new[3] = clamp(contents.temp, limits.temp);
+/// A number or a band of numbers, as the rows of a vessel have them.
+pub(crate) trait Amount: Copy + Drop {
+    /// What it is inside its limits.
+    ghost clamped: { Interval → Self → Self };
+
+    fn clamped(self, limits: Band) -> Self
+        ensures { result ≡ clamped limits self };
 }
 
-/// `put_point` over bands.
-pub(crate) fn put_band(contents: &Contents<Band>, limits: &Limits, new: &mut [Band])
+impl Amount for i64 {
+    ghost clamped = { clamp };
+
+    fn clamped(self, limits: Band) -> i64 {
+        clamp(self, limits)
+    }
+}
+
+impl Amount for Band {
+    ghost clamped = { λ limits. hull1 (clamp limits) };
+
+    fn clamped(self, limits: Band) -> Band {
+        clamp_band(self, limits)
+    }
+}
+
+/// Puts the contents into the row of states, each clamped by its limits.
+pub(crate) fn put<A: Amount>(contents: &Contents<A>, limits: &Limits, new: &mut [A])
     requires { length new.old ≡ 4 }
-    ensures { new.new ≡ hull1 (clamp limits.now.volume) contents.now.volume ∷ hull1 (clamp limits.now.flow) contents.now.flow
-        ∷ hull1 (clamp limits.now.conc) contents.now.conc ∷ hull1 (clamp limits.now.temp) contents.now.temp ∷ [] }
+    ensures { new.new ≡ A.clamped limits.now.volume contents.now.volume ∷ A.clamped limits.now.flow contents.now.flow
+        ∷ A.clamped limits.now.conc contents.now.conc ∷ A.clamped limits.now.temp contents.now.temp ∷ [] }
 {
-    new[0] = clamp_band(contents.volume, limits.volume);
-    new[1] = clamp_band(contents.flow, limits.flow);
-    new[2] = clamp_band(contents.conc, limits.conc);
-    new[3] = clamp_band(contents.temp, limits.temp);
+    new[0] = contents.volume.clamped(limits.volume);
+    new[1] = contents.flow.clamped(limits.flow);
+    new[2] = contents.conc.clamped(limits.conc);
+    new[3] = contents.temp.clamped(limits.temp);
 }
 
 /// Shows the stream that flows out, and the level.
-pub(crate) fn show_point(state: &[i64], limits: &Limits, outs: &mut [i64])
-    requires states { AreStates state.now }
+pub(crate) fn show<A: Amount>(state: &[A], limits: &Limits, outs: &mut [A])
+    requires states { 4 ≤ length state.now }
     requires room { length outs.old ≡ 4 }
-    ensures { outs.new ≡ values Floor stream_out state.now [] ++ value Floor state.now [] (level limits.now) ∷ [] }
+    ensures { (none : A) → outs.new ≡ get_or state.now 1 none ∷ get_or state.now 2 none ∷ get_or state.now 3 none
+        ∷ A.clamped limits.now.signal (get_or state.now 0 none) ∷ [] }
 {
     outs[0] = state[1];
     outs[1] = state[2];
     outs[2] = state[3];
-    outs[3] = clamp(state[0], limits.signal);
-}
-
-/// `show_point` over bands.
-pub(crate) fn show_band(state: &[Band], limits: &Limits, outs: &mut [Band])
-    requires states { AreStateBands state.now }
-    requires room { length outs.old ≡ 4 }
-    ensures { outs.new ≡ intervals Floor stream_out state.now [] ++ interval Floor state.now [] (level limits.now) ∷ [] }
-{
-    outs[0] = state[1];
-    outs[1] = state[2];
-    outs[2] = state[3];
-    outs[3] = clamp_band(state[0], limits.signal);
+    outs[3] = state[0].clamped(limits.signal);
 }

@@ -5,14 +5,14 @@ use Rattle.std.proofs.lemmas.List.{length-append}
 use Rattle.std.proofs.lemmas.List.FromFn.{length-map-range_with_len, fill_by_all}
 use Rattle.std.proofs.lemmas.Simd.{map-map}
 use Rattle.std.specs.Prelude.{slice_index_or}
-use Rattle.quant.specs.Interval.{Interval, Holds, IsInside, AllHold, AllInside, wide, point}
+use Rattle.quant.specs.Interval.{Interval, IsInside, AllHold, AllInside, wide, point}
 use Rattle.quant.specs.Operation.{IsDrainable}
 use Rattle.quant.specs.Term.{Term, state, gain_of}
-use Rattle.quant.proofs.Hulls.{inside-holds}
-use Rattle.quant.proofs.Calls.{held-length, inside-length, inside-trans, read-inside}
-use Rattle.quant.proofs.Terms.{place-holds, place-inside}
+use Rattle.quant.proofs.Calls.{held-length, inside-length}
 use Rattle.column_section.specs.declared.column.Column.{Column}
-use Rattle.column_section.specs.Column.{IsSound, stages_of, above, below, liquid, vapour, stage, state_limits, register_limits, input_limits}
+use Rattle.column_section.specs.Column.{IsSound, stages_of, above, below, liquid, vapour, stage, state_limits, register_limits}
+use Rattle.column_section.specs.Column.{MayTake, MayTakeBands, input_limits}
+use Rattle.column_section.specs.Readings.{MayStep}
 use Rattle.column_section.specs.ColumnLaws.{stage-limits}
 
 -- how many states there are
@@ -23,43 +23,34 @@ limits-length column =
     length-append stages (register_limits column) in
     all ∙ ap (λ n. n + 4) (length-map-range_with_len (λ i. column.limits.conc) 0 column.stages)
 
-pub states-length : (column : Column) (xs : List ℤ) → AllHold (state_limits column) xs → length xs ≡ column.stages + 4
-states-length column xs h = held-length (state_limits column) xs h ∙ limits-length column
+pub states_long : (column : Column) (xs : List ℤ) → AllHold (state_limits column) xs → length xs ≡ column.stages + 4
+states_long column xs h = held-length (state_limits column) xs h ∙ limits-length column
 
-pub bands-length : (column : Column) (xs : List Interval) → AllInside xs (state_limits column) →
-    length xs ≡ column.stages + 4
-bands-length column xs h = inside-length xs (state_limits column) h ∙ limits-length column
+pub bands_long : (column : Column) (xs : List Interval) → AllInside xs (state_limits column) → length xs ≡ column.stages + 4
+bands_long column xs h = inside-length xs (state_limits column) h ∙ limits-length column
 
--- so each place before that number is there
-pub state-there : (column : Column) (xs : List ℤ) (n : ℕ) → AllHold (state_limits column) xs → n < column.stages + 4 →
-    n < length xs
-state-there column xs n h k = omega (arith, states-length column xs h)
+-- and inputs, so a step may be made from rows of numbers or of bands
+pub step-numbers : (column : Column) (states ins : List ℤ) → IsSound column → AllHold (state_limits column) states →
+    MayTake column ins → MayStep AllHold MayTake column states ins
+step-numbers column states ins sound h t = record {
+  sound = sound;
+  states = h;
+  inputs = t;
+  count = states_long column states h;
+  six = held-length input_limits ins t.held;
+}
 
-pub band-there : (column : Column) (xs : List Interval) (n : ℕ) → AllInside xs (state_limits column) →
-    n < column.stages + 4 → n < length xs
-band-there column xs n h k = omega (arith, bands-length column xs h)
+pub step-bands : (column : Column) (states ins : List Interval) → IsSound column → AllInside states (state_limits column) →
+    MayTakeBands column ins → MayStep (λ As Bs. AllInside Bs As) MayTakeBands column states ins
+step-bands column states ins sound h t =
+    record { sound = sound; states = h; inputs = t; count = bands_long column states h; six = inside-length ins input_limits t.held }
 
 -- each stage's conc lies where its limits may
-pub state-held : (column : Column) (xs : List ℤ) (i : ℕ) → IsSound column → AllHold (state_limits column) xs →
-    i < column.stages → Holds wide (slice_index_or xs i (pos 0))
-state-held column xs i sound h l =
-    inside-holds column.limits.conc wide (slice_index_or xs i (pos 0)) sound.limits.conc.1
-    (subst (λ (A : Interval). Holds A (slice_index_or xs i (pos 0))) (stage-limits column i l)
-    (place-holds (state_limits column) xs i h))
-
-pub state-inside : (column : Column) (xs : List Interval) (i : ℕ) (r : Interval) → IsSound column →
-    AllInside xs (state_limits column) → i < column.stages → r ≡ get_or xs i r → IsInside r wide
-state-inside column xs i r sound h l e =
-    read-inside xs i r wide (omega (arith, bands-length column xs h)) e
-    (inside-trans _ column.limits.conc wide
-    (subst (λ (A : Interval). IsInside (slice_index_or xs i (point (pos 0))) A) (stage-limits column i l)
-    (place-inside (xs) (state_limits column) i h)) sound.limits.conc.1)
-
-pub input-inside : (xs : List Interval) (n : ℕ) (r : Interval) → AllInside xs input_limits → n < 6 →
-    r ≡ get_or xs n r → IsInside r (slice_index_or input_limits n (point (pos 0)))
-input-inside xs n r h b e =
-    let l = inside-length xs input_limits h in
-    read-inside xs n r _ (omega arith) e (place-inside xs input_limits n h)
+pub state-lies : {X : Type 0} (lies : Interval → X → Type 0) →
+    ((A B : Interval) (x : X) → lies A x → IsInside A B → lies B x) → (column : Column) (i : ℕ) (x : X) →
+    IsSound column → i < column.stages → lies (slice_index_or (state_limits column) i (point (pos 0))) x → lies wide x
+state-lies lies wider column i x sound l h =
+    wider column.limits.conc wide x (subst (λ (A : Interval). lies A x) (stage-limits column i l) h) sound.limits.conc.1
 
 -- what comes to a stage from above and from below
 pub above-first : (i : ℕ) → i ≡ 0 → above i ≡ liquid.conc

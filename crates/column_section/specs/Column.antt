@@ -80,14 +80,3 @@ pub record IsSound (column : Column) : Type 0 where
   pub holdup : Holds holdups column.holdup
   pub slope : Holds slopes column.slope
   pub limits : AreLimits column.limits
-
--- a step may be made from these states and inputs
-pub record MayStep (column : Column) (state ins : List ℤ) : Type 0 where
-  pub sound : IsSound column
-  pub states : AllHold (state_limits column) state
-  pub inputs : MayTake column ins
-
-pub record MayStepBands (column : Column) (state ins : List Interval) : Type 0 where
-  pub sound : IsSound column
-  pub states : AllInside state (state_limits column)
-  pub inputs : MayTakeBands column ins

@@ -1,11 +1,12 @@
-ghost use Rattle.std.specs.Prelude.{◌≡◌, ◌<◌, [], length, map};
-ghost use Rattle.quant.specs.Interval.{Holds, IsInside, wide};
-ghost use Rattle.quant.specs.Rounding.{Floor};
+ghost use Rattle.std.specs.Prelude.{◌≡◌, ◌<◌, ◌+◌, [], length, map};
+ghost use Rattle.quant.specs.Interval.{wide};
 ghost use Rattle.quant.specs.Operation.{contents};
-ghost use Rattle.quant.specs.Term.{value, values, interval, intervals};
-ghost use Rattle.column_section.specs.Column.{MayTake, MayTakeBands, MayStep, MayStepBands, above, below, stage, stages_of, registers};
+ghost use Rattle.quant.specs.Ports.{outputs};
+ghost use Rattle.column_section.specs.Column.{IsSound, above, below, stage, stages_of, registers, view_terms, state_limits};
+ghost use Rattle.column_section.specs.Readings.{MayStep};
 
-use quant::{Band, Kind, Limits, clamp, clamp_band, gain, gain_band, tray, tray_band};
+use crate::reading::Reading;
+use quant::{Band, Kind, Limits};
 
 /// A section of a column: stages of equal holdup, through which liquid falls and vapour rises.
 ///
@@ -46,34 +47,24 @@ impl Kind for Column {
 
     fn next_point(&self, state: &[i64], ins: &[i64], new: &mut [i64]) {
         let (contents, registers) = new.split_at_mut(self.stages as usize);
-        self.fill_point(state, ins, contents);
-        self.register_point(ins, registers);
+        self.fill(state, ins, contents);
+        self.register(ins, registers);
     }
 
     fn next_band(&self, state: &[Band], ins: &[Band], new: &mut [Band]) {
         let (contents, registers) = new.split_at_mut(self.stages as usize);
-        self.fill_band(state, ins, contents);
-        self.register_band(ins, registers);
+        self.fill(state, ins, contents);
+        self.register(ins, registers);
     }
 
+    #[tactic(auto, using(crate::proofs::Columns::states_long))]
     fn view_point(&self, state: &[i64], outs: &mut [i64]) {
-        let stages = self.stages as usize;
-        outs[0] = state[stages];
-        outs[1] = state[stages - 1];
-        outs[2] = state[stages + 1];
-        outs[3] = state[stages + 2];
-        outs[4] = clamp(gain(state[0], self.slope), self.limits.conc);
-        outs[5] = state[stages + 3];
+        self.show(state, outs);
     }
 
+    #[tactic(auto, using(crate::proofs::Columns::bands_long))]
     fn view_band(&self, state: &[Band], outs: &mut [Band]) {
-        let stages = self.stages as usize;
-        outs[0] = state[stages];
-        outs[1] = state[stages - 1];
-        outs[2] = state[stages + 1];
-        outs[3] = state[stages + 2];
-        outs[4] = clamp_band(gain_band(state[0], self.slope), self.limits.conc);
-        outs[5] = state[stages + 3];
+        self.show(state, outs);
     }
 
     ghost next_limited = { next-limited };
@@ -83,136 +74,78 @@ impl Kind for Column {
 
 impl Column {
     /// The conc of stage `i` at the next tick.
-    fn stage_point(&self, state: &[i64], ins: &[i64], i: usize) -> i64
-        requires step { MayStep self.now state.now ins.now }
+    fn stage<R: Reading>(&self, state: &[R], ins: &[R], i: usize) -> R
+        requires step { MayStep R.all_lie_in R.may_take self.now state.now ins.now }
         requires stage { i < self.now.stages }
-        ensures { result ≡ value Floor state.now ins.now (stage self.now i) }
+        ensures { result ≡ R.read state.now ins.now (stage self.now i) }
     {
-        let above = self.above_point(state, ins, i);
-        let below = self.below_point(state, ins, i);
-        let mixed = tray(
-            state[i],
-            above,
-            below,
-            ins[0],
-            ins[3],
-            self.holdup,
-            self.slope,
-        );
-        clamp(mixed, self.limits.conc)
+        let above = self.above(state, ins, i);
+        let below = self.below(state, ins, i);
+        let mixed = state[i].stirred(above, below, ins[0], ins[3], self);
+        mixed.clamped(self.limits.conc)
     }
 
     /// The conc of the liquid that comes to stage `i`.
-    fn above_point(&self, state: &[i64], ins: &[i64], i: usize) -> i64
-        requires step { MayStep self.now state.now ins.now }
+    fn above<R: Reading>(&self, state: &[R], ins: &[R], i: usize) -> R
+        requires step { MayStep R.all_lie_in R.may_take self.now state.now ins.now }
         requires stage { i < self.now.stages }
-        ensures value { result ≡ value Floor state.now ins.now (above i) }
-        ensures size { Holds wide result }
+        ensures value { result ≡ R.read state.now ins.now (above i) }
+        ensures size { R.lies_in wide result }
     {
         if i == 0 { ins[1] } else { state[i - 1] }
     }
 
     /// The conc of the vapour that comes to stage `i`.
-    fn below_point(&self, state: &[i64], ins: &[i64], i: usize) -> i64
-        requires step { MayStep self.now state.now ins.now }
+    fn below<R: Reading>(&self, state: &[R], ins: &[R], i: usize) -> R
+        requires step { MayStep R.all_lie_in R.may_take self.now state.now ins.now }
         requires stage { i < self.now.stages }
-        ensures value { result ≡ value Floor state.now ins.now (below self.now i) }
-        ensures size { Holds contents result }
+        ensures value { result ≡ R.read state.now ins.now (below self.now i) }
+        ensures size { R.lies_in contents result }
     {
         if i + 1 < self.stages as usize {
-            gain(state[i + 1], self.slope)
+            state[i + 1].gained(self.slope)
         } else {
             ins[4]
         }
     }
 
     /// Makes the conc of each stage at the next tick.
-    fn fill_point(&self, state: &[i64], ins: &[i64], contents: &mut [i64])
-        requires step { MayStep self.now state.now ins.now }
+    fn fill<R: Reading>(&self, state: &[R], ins: &[R], contents: &mut [R])
+        requires step { MayStep R.all_lie_in R.may_take self.now state.now ins.now }
         requires room { length contents.old ≡ self.now.stages }
-        ensures { contents.new ≡ values Floor (map (stage self.now) (stages_of self.now)) state.now ins.now }
+        ensures { contents.new ≡ map (R.read state.now ins.now) (map (stage self.now) (stages_of self.now)) }
     {
         for i in 0..contents.len() {
-            contents[i] = self.stage_point(state, ins, i);
+            contents[i] = self.stage(state, ins, i);
         }
     }
 
     /// Makes the flows and temps that leave at the next tick.
-    fn register_point(&self, ins: &[i64], new: &mut [i64])
-        requires inputs { MayTake self.now ins.now }
+    fn register<R: Reading>(&self, ins: &[R], new: &mut [R])
+        requires inputs { R.may_take self.now ins.now }
         requires room { length new.old ≡ 4 }
-        ensures { new.new ≡ values Floor (registers self.now) [] ins.now }
+        ensures { new.new ≡ map (R.read [] ins.now) (registers self.now) }
     {
-        new[0] = clamp(ins[0], self.limits.flow);
-        new[1] = clamp(ins[2], self.limits.temp);
-        new[2] = clamp(ins[3], self.limits.flow);
-        new[3] = clamp(ins[5], self.limits.temp);
+        new[0] = ins[0].clamped(self.limits.flow);
+        new[1] = ins[2].clamped(self.limits.temp);
+        new[2] = ins[3].clamped(self.limits.flow);
+        new[3] = ins[5].clamped(self.limits.temp);
     }
 
-    /// The band of the conc of stage `i` at the next tick.
-    fn stage_band(&self, state: &[Band], ins: &[Band], i: usize) -> Band
-        requires step { MayStepBands self.now state.now ins.now }
-        requires stage { i < self.now.stages }
-        ensures { result ≡ interval Floor state.now ins.now (stage self.now i) }
+    /// Makes the outputs.
+    fn show<R: Reading>(&self, state: &[R], outs: &mut [R])
+        requires sound { IsSound self.now }
+        requires states { R.all_lie_in (state_limits self.now) state.now }
+        requires count { length state.now ≡ self.now.stages + 4 }
+        requires room { length outs.old ≡ 6 }
+        ensures { outs.new ≡ map (R.read state.now []) (outputs (view_terms self.now)) }
     {
-        let above = self.above_band(state, ins, i);
-        let below = self.below_band(state, ins, i);
-        let mixed = tray_band(
-            state[i],
-            above,
-            below,
-            ins[0],
-            ins[3],
-            self.holdup,
-            self.slope,
-        );
-        clamp_band(mixed, self.limits.conc)
-    }
-
-    /// The band of the conc of the liquid that comes to stage `i`.
-    fn above_band(&self, state: &[Band], ins: &[Band], i: usize) -> Band
-        requires step { MayStepBands self.now state.now ins.now }
-        requires stage { i < self.now.stages }
-        ensures value { result ≡ interval Floor state.now ins.now (above i) }
-        ensures size { IsInside result wide }
-    {
-        if i == 0 { ins[1] } else { state[i - 1] }
-    }
-
-    /// The band of the conc of the vapour that comes to stage `i`.
-    fn below_band(&self, state: &[Band], ins: &[Band], i: usize) -> Band
-        requires step { MayStepBands self.now state.now ins.now }
-        requires stage { i < self.now.stages }
-        ensures value { result ≡ interval Floor state.now ins.now (below self.now i) }
-        ensures size { IsInside result contents }
-    {
-        if i + 1 < self.stages as usize {
-            gain_band(state[i + 1], self.slope)
-        } else {
-            ins[4]
-        }
-    }
-
-    /// Makes the bands of the conc of each stage at the next tick.
-    fn fill_band(&self, state: &[Band], ins: &[Band], contents: &mut [Band])
-        requires step { MayStepBands self.now state.now ins.now }
-        requires room { length contents.old ≡ self.now.stages }
-        ensures { contents.new ≡ intervals Floor (map (stage self.now) (stages_of self.now)) state.now ins.now }
-    {
-        for i in 0..contents.len() {
-            contents[i] = self.stage_band(state, ins, i);
-        }
-    }
-
-    /// Makes the bands of the flows and temps that leave at the next tick.
-    fn register_band(&self, ins: &[Band], new: &mut [Band])
-        requires inputs { MayTakeBands self.now ins.now }
-        requires room { length new.old ≡ 4 }
-        ensures { new.new ≡ intervals Floor (registers self.now) [] ins.now }
-    {
-        new[0] = clamp_band(ins[0], self.limits.flow);
-        new[1] = clamp_band(ins[2], self.limits.temp);
-        new[2] = clamp_band(ins[3], self.limits.flow);
-        new[3] = clamp_band(ins[5], self.limits.temp);
+        let stages = self.stages as usize;
+        outs[0] = state[stages];
+        outs[1] = state[stages - 1];
+        outs[2] = state[stages + 1];
+        outs[3] = state[stages + 2];
+        outs[4] = state[0].gained(self.slope).clamped(self.limits.conc);
+        outs[5] = state[stages + 3];
     }
 }

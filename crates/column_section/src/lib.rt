@@ -2,5 +2,6 @@
 #![tactic(auto)]
 
 mod column;
+mod reading;
 
 pub use column::Column;

@@ -29,7 +29,7 @@ use Rattle.plant.specs.PlantOf.{plant_of}
 use Rattle.plant.specs.Steps.{IsReady, shown_by, shown_at, HasShown}
 use Rattle.plant.proofs.Inputs.{takes-streams}
 use Rattle.plant.proofs.Lookups.{sound-at, unit-is, From, from_feed, from_port, from, outputs-are}
-use Rattle.plant.proofs.Stepping.{states-inside}
+use Rattle.plant.proofs.Stepping.{states-inside, may-show_by}
 
 -- what a unit shows, an output a row
 abbrev pub shown_rows : Unit → List Interval → List Interval → List (List Interval)
@@ -99,14 +99,8 @@ pub may-show : (parts : FileParts) (n : ℕ) (x : Unit) (states streams : List (
     n < length (units_of parts) →
     MayShow (get_or (units_of parts) n x) (bands_at states n) streams
 may-show parts n x states streams s row ready h =
-    let t = sound-at parts n x s.units h in
-    record {
-      sound = t.sound;
-      states = states-inside parts n x (bands_at states n) h (row.states n h);
-      known = subst (λ (k : ℕ). AllByRecursion (λ q. q < k) (reads_of (get_or (units_of parts) n x)))
-          (sym row.streams_counted) t.reads;
-      inputs = ready-takes parts n (get_or (units_of parts) n x) streams t ready (unit-is parts n x h);
-    }
+    may-show_by parts n x states streams s (row.states n h) row.streams_counted h
+    (ready-takes parts n (get_or (units_of parts) n x) streams (sound-at parts n x s.units h) ready (unit-is parts n x h))
 
 -- there is room for what it shows
 has_room-unit : (parts : FileParts) (n : ℕ) (x : Unit) (states streams : List (List Interval)) (ins : List Interval) →

@@ -1,6 +1,6 @@
 -- A unit steps its states.
 use Rattle.std.proofs.Common.{ℕ, ◌<◌, List, length, get_or, subst, sym, ◌≡◌, ap, [], set, inl, inr, ◌∙◌}
-use Rattle.std.proofs.Common.{get_or-set_other, length-set, arith, refl, ◌+◌, ◌≢◌}
+use Rattle.std.proofs.Common.{get_or-set_other, length-set, arith, refl, ◌+◌, ◌≢◌, true}
 use Rattle.std.specs.List.{AllByRecursion}
 use Rattle.std.proofs.lemmas.Bool.{cases_eq}
 use Rattle.std.proofs.lemmas.Grind.{get_or-set_at}
@@ -9,8 +9,9 @@ use Rattle.flowsheet.specs.Plant as sheet
 use Rattle.flowsheet.specs.Reading.{on_bands, inputs_of, stepped}
 use Rattle.parts.specs.Parts.{FileParts}
 use Rattle.plant_units.specs.declared.units.Unit.{Unit}
-use Rattle.plant_units.specs.Units.{units_of, sheet_unit, state_limits_of, reads_of}
-use Rattle.plant_units.specs.Steps.{bands_at, MayStep, gathered, steps}
+use Rattle.plant_streams.specs.Streams.{streams_of}
+use Rattle.plant_units.specs.Units.{units_of, sheet_unit, state_limits_of, reads_of, is_instant, MayTake}
+use Rattle.plant_units.specs.Steps.{bands_at, MayShow, MayStep, gathered, steps}
 use Rattle.plant_units.proofs.AllKinds.{steps-inside}
 use Rattle.plant.specs.PlantOf.{plant_of}
 use Rattle.plant.proofs.Inputs.{takes-streams}
@@ -33,19 +34,30 @@ unfolding sheet_unit
 inside-states parts n x state h inside =
     subst (λ (u : sheet.PlantUnit). AllInside state u.state_limits) (sym (unit-is parts n x h)) inside
 
+-- it may show itself, if it holds something back or may take what it reads
+pub may-show_by : (parts : FileParts) (n : ℕ) (x : Unit) (states streams : List (List Interval)) → ArePartsSound parts →
+    AllInside (bands_at states n) (sheet.unit_at (plant_of parts) n).state_limits →
+    length streams ≡ length (streams_of parts) → n < length (units_of parts) →
+    (is_instant (get_or (units_of parts) n x) ≡ true →
+    MayTake (get_or (units_of parts) n x) (gathered (reads_of (get_or (units_of parts) n x)) streams)) →
+    MayShow (get_or (units_of parts) n x) (bands_at states n) streams
+may-show_by parts n x states streams s inside counted h takes =
+    let t = sound-at parts n x s.units h in
+    record {
+      sound = t.sound;
+      states = states-inside parts n x (bands_at states n) h inside;
+      known = subst (λ (k : ℕ). AllByRecursion (λ q. q < k) (reads_of (get_or (units_of parts) n x))) (sym counted) t.reads;
+      inputs = takes;
+    }
+
 -- it may take what is inside the limits of all streams
 pub may-step : (parts : FileParts) (n : ℕ) (x : Unit) (states streams : List (List Interval)) → ArePartsSound parts →
     AreStates parts states → AreStreams parts streams → n < length (units_of parts) →
     MayStep (get_or (units_of parts) n x) (bands_at states n) streams
 may-step parts n x states streams s a b h =
-    let t = sound-at parts n x s.units h in
-    record {
-      sound = t.sound;
-      states = states-inside parts n x (bands_at states n) h (a.inside n h);
-      known = subst (λ (k : ℕ). AllByRecursion (λ q. q < k) (reads_of (get_or (units_of parts) n x)))
-          (sym b.counted) t.reads;
-      inputs = takes-streams parts n (get_or (units_of parts) n x) (bands_at streams) t b.inside;
-    }
+    let takes = takes-streams parts n (get_or (units_of parts) n x) (bands_at streams) (sound-at parts n x s.units h) b.inside in
+    let shows = may-show_by parts n x states streams s (a.inside n h) b.counted h (λ instant. takes) in
+    record { sound = shows.sound; states = shows.states; known = shows.known; inputs = takes }
 
 -- its steps are the definitions'
 pub steps-are : (parts : FileParts) (n : ℕ) (x : Unit) (state : List Interval) (streams : List (List Interval)) →

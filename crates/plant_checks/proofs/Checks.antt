@@ -5,13 +5,16 @@ use Rattle.parts.specs.Parts.{FileParts}
 use Rattle.parts.specs.declared.units.KindPart.{KindPart}
 use Rattle.parts.specs.declared.units.KindPart.TheVariants as part
 use Rattle.parts.specs.declared.units.UnitPart.{UnitPart}
-use Rattle.plant_streams.specs.Streams.{streams_of}
+use Rattle.plant_streams.specs.Streams.{streams_of, references_of}
 use Rattle.plant_streams.specs.declared.streams.Stream.{Stream}
 use Rattle.plant_checks.specs.Checks.{Checked, ◌>>◌, each, Fails, checked, column_kind_check, column_check}
+use Rattle.plant_checks.specs.Checks.{source_check, port_check}
+use Rattle.plant_checks.specs.declared.unit_checks.Wanted.{Wanted}
+use Rattle.plant_checks.specs.declared.unit_checks.Wanted.TheVariants as wanted
 use Rattle.plant_checks.specs.declared.fault.Unbuilt.{Unbuilt}
 use Rattle.plant_checks.specs.declared.fault.Unbuilt.TheVariants as unbuilt
 use Rattle.plant_checks.specs.Groups.{names_checked, references_checked, bands_checked, feeds_checked, units_checked}
-use Rattle.plant_checks.specs.Seen.{column_kind_seen, column_seen}
+use Rattle.plant_checks.specs.Seen.{column_kind_seen, column_seen, reference_refused, references_check}
 
 -- the check of an item in reach, and then those of the items after it
 pub goes_on : {A : Type 0} (check : ℕ → A → Checked) (items : List A) (i : ℕ) (x : A) → i < length items →
@@ -29,6 +32,14 @@ pub each_map : {A B : Type 0} (check : ℕ → B → Checked) (view : A → B) (
     each check i (map view items) ≡ each (λ j x. check j (view x)) i items
 each_map check view i [] = refl
 each_map check view i (x ∷ rest) = ap (λ next. check i (view x) >> next) (each_map check view (suc i) rest)
+
+-- what is wanted of the references of a unit is wanted of each
+pub wanted_of_each : (asked : Wanted) (list : List Stream) (u : ℕ) (unit : UnitPart) →
+    references_check asked list u unit ≡ each (λ i reference. reference_refused asked list u reference) 0
+    (references_of unit.kind)
+unfolding source_check port_check
+wanted_of_each wanted.Source list u unit = refl
+wanted_of_each wanted.FitForPort list u unit = refl
 
 -- the place of a key with an index
 pub indexed_place : (front key index : List ℕ) → (((front ++ key) ++ codes "[") ++ index) ++ codes "]" ≡ front

@@ -11,7 +11,7 @@ use crate::fault::Unbuilt;
 use crate::feed_checks::{InsideCheck, PiecesCheck};
 use crate::names::{NameCheck, names_of};
 use crate::rate_checks::RateCheck;
-use crate::unit_checks::{OpeningCheck, OwnLimitsCheck, PortCheck, SourceCheck, check_limits};
+use crate::unit_checks::{OpeningCheck, OwnLimitsCheck, ReferencesCheck, Wanted, check_limits};
 use parts::Parts;
 use plant_streams::Stream;
 use std::alloc::Global;
@@ -32,8 +32,18 @@ fn check_references(alloc: Global, parts: &Parts, streams: &[Stream]) -> Result<
     requires { streams.now ≡ streams_of parts.now }
     ensures { Passes result (references_checked parts.now) }
 {
-    each(alloc, &SourceCheck { streams }, parts.units.as_slice())?;
-    each(alloc, &PortCheck { streams }, parts.units.as_slice())
+    let wanted = Wanted::Source;
+    each(
+        alloc,
+        &ReferencesCheck { streams, wanted },
+        parts.units.as_slice(),
+    )?;
+    let wanted = Wanted::FitForPort;
+    each(
+        alloc,
+        &ReferencesCheck { streams, wanted },
+        parts.units.as_slice(),
+    )
 }
 
 /// Refuses bad limits, and then a unit that starts outside its limits.

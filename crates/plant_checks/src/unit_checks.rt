@@ -2,10 +2,9 @@
 
 ghost use Rattle.std.specs.Prelude.{◌≡◌, IfOk};
 ghost use Rattle.plant_checks.specs.declared.fault.PlantFault.TheVariants.{BadLimits};
-ghost use Rattle.plant_streams.specs.Streams.{number_of, gives_signal};
 ghost use Rattle.plant_streams.specs.Seen.{with_index, reference_seen};
-ghost use Rattle.plant_checks.specs.Seen.{opening_seen};
-ghost use Rattle.plant_checks.specs.Checks.{Passes, unit_place, is_outside, source_refused, source_check, port_refused, port_check, limits_check, own_begins_below, own_limits_check, opening_refused, opening_check};
+ghost use Rattle.plant_checks.specs.Seen.{opening_seen, reference_refused, references_check};
+ghost use Rattle.plant_checks.specs.Checks.{Passes, unit_place, is_outside, limits_check, own_begins_below, own_limits_check, opening_refused, opening_check};
 
 use crate::each::{Check, each};
 use crate::fault::{PlantFault, Unbuilt};
@@ -35,66 +34,27 @@ fn reference_place(
     }
 }
 
-/// Refuses a reference of a unit that names no stream.
+/// What a reference of a unit has to name.
 #[derive(Clone, Copy)]
-struct NamesStream<'a> {
+pub(crate) enum Wanted {
+    /// A stream.
+    Source,
+    /// A material stream or a signal, as its port needs.
+    FitForPort,
+}
+
+/// Refuses a reference of a unit that does not name what is wanted.
+#[derive(Clone, Copy)]
+struct ReferenceCheck<'a> {
     streams: &'a [Stream],
     unit: usize,
+    wanted: Wanted,
 }
 
-impl<'a> Check for NamesStream<'a> {
+impl<'a> Check for ReferenceCheck<'a> {
     type Item = Reference<'a>;
 
-    ghost check = { λ c _ reference. source_refused c.unit (reference_seen reference) (number_of c.streams.now (reference_seen reference).name) };
-
-    fn check(
-        &self,
-        alloc: Global,
-        _index: usize,
-        reference: &Reference<'a>,
-    ) -> Result<(), Unbuilt> {
-        match number_of(self.streams, reference.name) {
-            Some(_) => Ok(()),
-            None => Err(Unbuilt::Fault(PlantFault::NoSource {
-                place: reference_place(alloc, self.unit, reference)?,
-            })),
-        }
-    }
-}
-
-/// Refuses the first reference of a unit that names no stream.
-#[derive(Clone, Copy)]
-pub(crate) struct SourceCheck<'a> {
-    pub streams: &'a [Stream],
-}
-
-impl<'a> Check for SourceCheck<'a> {
-    type Item = UnitPart;
-
-    ghost check = { λ c. source_check c.streams.now };
-
-    #[tactic(auto, unfolding(crate::specs::Checks::source_check), using(crate::proofs::Checks::each_map))]
-    fn check(&self, alloc: Global, unit: usize, part: &UnitPart) -> Result<(), Unbuilt> {
-        let references = references_of(alloc, &part.kind)?;
-        let check = NamesStream {
-            streams: self.streams,
-            unit,
-        };
-        each(alloc, &check, references.as_slice())
-    }
-}
-
-/// Refuses a reference of a unit that names a material stream where a signal is needed, or the other way.
-#[derive(Clone, Copy)]
-struct FitsPort<'a> {
-    streams: &'a [Stream],
-    unit: usize,
-}
-
-impl<'a> Check for FitsPort<'a> {
-    type Item = Reference<'a>;
-
-    ghost check = { λ c _ reference. port_refused c.unit (reference_seen reference) (gives_signal c.streams.now (number_of c.streams.now (reference_seen reference).name)) };
+    ghost check = { λ c _ reference. reference_refused c.wanted c.streams.now c.unit (reference_seen reference) };
 
     fn check(
         &self,
@@ -103,33 +63,39 @@ impl<'a> Check for FitsPort<'a> {
         reference: &Reference<'a>,
     ) -> Result<(), Unbuilt> {
         let found = number_of(self.streams, reference.name);
-        if gives_signal(self.streams, found) == reference.signal {
-            Ok(())
-        } else {
-            Err(Unbuilt::Fault(PlantFault::WrongPort {
+        match self.wanted {
+            Wanted::Source if found.is_none() => Err(Unbuilt::Fault(PlantFault::NoSource {
                 place: reference_place(alloc, self.unit, reference)?,
-            }))
+            })),
+            Wanted::FitForPort if gives_signal(self.streams, found) != reference.signal => {
+                Err(Unbuilt::Fault(PlantFault::WrongPort {
+                    place: reference_place(alloc, self.unit, reference)?,
+                }))
+            }
+            _ => Ok(()),
         }
     }
 }
 
-/// Refuses the first reference of a unit that names a material stream where a signal is needed, or the other way.
+/// Refuses the first reference of a unit that does not name what is wanted.
 #[derive(Clone, Copy)]
-pub(crate) struct PortCheck<'a> {
+pub(crate) struct ReferencesCheck<'a> {
     pub streams: &'a [Stream],
+    pub wanted: Wanted,
 }
 
-impl<'a> Check for PortCheck<'a> {
+impl<'a> Check for ReferencesCheck<'a> {
     type Item = UnitPart;
 
-    ghost check = { λ c. port_check c.streams.now };
+    ghost check = { λ c. references_check c.wanted c.streams.now };
 
-    #[tactic(auto, unfolding(crate::specs::Checks::port_check), using(crate::proofs::Checks::each_map))]
+    #[tactic(auto, using(crate::proofs::Checks::wanted_of_each, crate::proofs::Checks::each_map))]
     fn check(&self, alloc: Global, unit: usize, part: &UnitPart) -> Result<(), Unbuilt> {
         let references = references_of(alloc, &part.kind)?;
-        let check = FitsPort {
+        let check = ReferenceCheck {
             streams: self.streams,
             unit,
+            wanted: self.wanted,
         };
         each(alloc, &check, references.as_slice())
     }

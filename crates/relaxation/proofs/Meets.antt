@@ -55,8 +55,7 @@ within-itself (A ∷ As) = (inside-itself A, within-itself As)
 
 -- and in what a wider tube lies in
 pub within-through : (A B C : Tube) → IsWithin A B → IsWithin B C → IsWithin A C
-within-through [] [] [] h k = tt
-within-through [] [] (C ∷ Cs) h k = absurd k
+within-through [] [] C h k = k
 within-through [] (B ∷ Bs) Cs h k = absurd h
 within-through (A ∷ As) [] Cs h k = absurd h
 within-through (A ∷ As) (B ∷ Bs) [] h k = absurd k
@@ -116,58 +115,41 @@ meet-wider [] B h = refl
 meet-wider (A ∷ As) [] h = absurd h
 meet-wider (A ∷ As) (B ∷ Bs) h = same_cons (meet_bands A B) A (meet As Bs) As (bands-wider A B h.0) (meet-wider As Bs h.1)
 
--- the meet of two lists of bands that hold a third holds it
-bands-holds : (Rs As Bs : List Interval) → AllInside Rs As → AllInside Rs Bs → AllInside Rs (meet_bands As Bs)
-unfolding meet-band
-bands-holds [] [] Bs h k = tt
-bands-holds [] (A ∷ As) Bs h k = absurd h
-bands-holds (R ∷ Rs) [] Bs h k = absurd h
-bands-holds (R ∷ Rs) (A ∷ As) [] h k = absurd k
-bands-holds (R ∷ Rs) (A ∷ As) (B ∷ Bs) h k = (band-holds R A B h.0 k.0, bands-holds Rs As Bs h.1 k.1)
+-- three facts of the first and of the rest
+all-three : {A B C D E F : Type 0} → A × B × C → D × E × F → (A × D) × (B × E) × (C × F)
+all-three first rest = ((first.0, rest.0), (first.1, rest.1), (first.2, rest.2))
 
--- and lies in the first
-bands-left : (Rs As Bs : List Interval) → AllInside Rs As → AllInside Rs Bs → AllInside (meet_bands As Bs) As
+-- the meet of two lists of bands that hold a third holds it, and lies in both
+bands-meet : (Rs As Bs : List Interval) → AllInside Rs As → AllInside Rs Bs →
+    AllInside Rs (meet_bands As Bs) × AllInside (meet_bands As Bs) As × AllInside (meet_bands As Bs) Bs
 unfolding meet-band
-bands-left [] [] Bs h k = tt
-bands-left [] (A ∷ As) Bs h k = absurd h
-bands-left (R ∷ Rs) [] Bs h k = absurd h
-bands-left (R ∷ Rs) (A ∷ As) [] h k = absurd k
-bands-left (R ∷ Rs) (A ∷ As) (B ∷ Bs) h k = (band-left A B, bands-left Rs As Bs h.1 k.1)
+bands-meet [] [] Bs h k = (tt, tt, k)
+bands-meet [] (A ∷ As) Bs h k = absurd h
+bands-meet (R ∷ Rs) [] Bs h k = absurd h
+bands-meet (R ∷ Rs) (A ∷ As) [] h k = absurd k
+bands-meet (R ∷ Rs) (A ∷ As) (B ∷ Bs) h k =
+    all-three (band-holds R A B h.0 k.0, band-left A B, band-right A B) (bands-meet Rs As Bs h.1 k.1)
 
--- and in the second
-bands-right : (Rs As Bs : List Interval) → AllInside Rs As → AllInside Rs Bs → AllInside (meet_bands As Bs) Bs
-unfolding meet-band
-bands-right [] [] [] h k = tt
-bands-right [] [] (B ∷ Bs) h k = absurd k
-bands-right [] (A ∷ As) Bs h k = absurd h
-bands-right (R ∷ Rs) [] Bs h k = absurd h
-bands-right (R ∷ Rs) (A ∷ As) [] h k = absurd k
-bands-right (R ∷ Rs) (A ∷ As) (B ∷ Bs) h k = (band-right A B, bands-right Rs As Bs h.1 k.1)
+-- so does the meet of two tubes
+tubes-meet : (R A B : Tube) → IsWithin R A → IsWithin R B →
+    IsWithin R (meet A B) × IsWithin (meet A B) A × IsWithin (meet A B) B
+tubes-meet [] [] B h k = (tt, tt, k)
+tubes-meet [] (A ∷ As) B h k = absurd h
+tubes-meet (R ∷ Rs) [] B h k = absurd h
+tubes-meet (R ∷ Rs) (A ∷ As) [] h k = absurd k
+tubes-meet (R ∷ Rs) (A ∷ As) (B ∷ Bs) h k = all-three (bands-meet R A B h.0 k.0) (tubes-meet Rs As Bs h.1 k.1)
 
--- the meet of two tubes that hold a third holds it
+-- it holds the third
 pub meet-holds : (R A B : Tube) → IsWithin R A → IsWithin R B → IsWithin R (meet A B)
-meet-holds [] [] B h k = tt
-meet-holds [] (A ∷ As) B h k = absurd h
-meet-holds (R ∷ Rs) [] B h k = absurd h
-meet-holds (R ∷ Rs) (A ∷ As) [] h k = absurd k
-meet-holds (R ∷ Rs) (A ∷ As) (B ∷ Bs) h k = (bands-holds R A B h.0 k.0, meet-holds Rs As Bs h.1 k.1)
+meet-holds R A B h k = (tubes-meet R A B h k).0
 
 -- and lies in the first
 pub meet-left : (R A B : Tube) → IsWithin R A → IsWithin R B → IsWithin (meet A B) A
-meet-left [] [] B h k = tt
-meet-left [] (A ∷ As) B h k = absurd h
-meet-left (R ∷ Rs) [] B h k = absurd h
-meet-left (R ∷ Rs) (A ∷ As) [] h k = absurd k
-meet-left (R ∷ Rs) (A ∷ As) (B ∷ Bs) h k = (bands-left R A B h.0 k.0, meet-left Rs As Bs h.1 k.1)
+meet-left R A B h k = (tubes-meet R A B h k).1
 
 -- and in the second
 pub meet-right : (R A B : Tube) → IsWithin R A → IsWithin R B → IsWithin (meet A B) B
-meet-right [] [] [] h k = tt
-meet-right [] [] (B ∷ Bs) h k = absurd k
-meet-right [] (A ∷ As) B h k = absurd h
-meet-right (R ∷ Rs) [] B h k = absurd h
-meet-right (R ∷ Rs) (A ∷ As) [] h k = absurd k
-meet-right (R ∷ Rs) (A ∷ As) (B ∷ Bs) h k = (bands-right R A B h.0 k.0, meet-right Rs As Bs h.1 k.1)
+meet-right R A B h k = (tubes-meet R A B h k).2
 
 -- what holds a band with a number has a number
 band-numbers : (A B : Interval) → IsBand A → IsInside A B → IsBand B
@@ -191,15 +173,19 @@ numbers-wider (A ∷ As) (B ∷ Bs) h k = (bands-numbers A B h.0 k.0, numbers-wi
 band_width : Interval → ℕ
 band_width B = nat_abs (B.hi -ℤ B.lo)
 
--- a band in another is no wider
-band-width_le : (A B : Interval) → IsBand A → IsInside A B → band_width A ≤ band_width B
+-- a band in another is no wider, and holds this if it is no narrower
+band-narrow : (A B : Interval) → IsBand A → IsInside A B →
+    (band_width A ≤ band_width B) × (band_width B ≤ band_width A → IsInside B A)
 unfolding band_width
-band-width_le A B h k = omega (arith, ints)
+band-narrow A B h k = (omega (arith, ints), λ m. record { above = omega (arith, ints); below = omega (arith, ints) })
 
--- and holds this if it is no narrower
-band-width_low : (A B : Interval) → IsBand A → IsInside A B → band_width B ≤ band_width A → IsInside B A
-unfolding band_width
-band-width_low A B h k m = record { above = omega (arith, ints); below = omega (arith, ints) }
+-- what is so of the first and of the rest is so of all
+all-narrow : {P Q : Type 0} (a b c d m n : ℕ) → m ≡ a + c → n ≡ b + d → (a ≤ b) × (b ≤ a → P) →
+    (c ≤ d) × (d ≤ c → Q) → (m ≤ n) × (n ≤ m → P × Q)
+all-narrow a b c d m n e f first rest =
+    let p : a ≤ b = first.0 in
+    let q : c ≤ d = rest.0 in
+    (omega arith, λ h. (first.1 (omega arith), rest.1 (omega arith)))
 
 -- the width of a list of bands
 bands_width : List Interval → ℕ
@@ -210,52 +196,31 @@ bands-width_cons : (B : Interval) (Bs : List Interval) → bands_width (B ∷ Bs
 unfolding band_width bands_width
 bands-width_cons B Bs = sum_by-cons (λ (A : Interval). nat_abs (A.hi -ℤ A.lo)) B Bs
 
--- bands in others are no wider
-bands-width_le : (As Bs : List Interval) → AllBands As → AllInside As Bs → bands_width As ≤ bands_width Bs
-bands-width_le [] [] h k = omega arith
-bands-width_le [] (B ∷ Bs) h k = absurd k
-bands-width_le (A ∷ As) [] h k = absurd k
-bands-width_le (A ∷ As) (B ∷ Bs) h k = omega (arith, bands-width_cons A As, bands-width_cons B Bs, band-width_le A B h.0 k.0, bands-width_le As Bs h.1 k.1)
-
--- and hold these if they are no narrower
-bands-width_low : (As Bs : List Interval) → AllBands As → AllInside As Bs → bands_width Bs ≤ bands_width As → AllInside Bs As
-bands-width_low [] [] h k m = tt
-bands-width_low [] (B ∷ Bs) h k m = absurd k
-bands-width_low (A ∷ As) [] h k m = absurd k
-bands-width_low (A ∷ As) (B ∷ Bs) h k m =
-    let p : band_width A ≤ band_width B = band-width_le A B h.0 k.0 in
-    let q : bands_width As ≤ bands_width Bs = bands-width_le As Bs h.1 k.1 in (
-      band-width_low A B h.0 k.0 (omega (arith, bands-width_cons A As, bands-width_cons B Bs)),
-      bands-width_low As Bs h.1 k.1 (omega (arith, bands-width_cons A As, bands-width_cons B Bs)),
-    )
+-- bands in others are no wider, and hold these if they are no narrower
+bands-narrow : (As Bs : List Interval) → AllBands As → AllInside As Bs →
+    (bands_width As ≤ bands_width Bs) × (bands_width Bs ≤ bands_width As → AllInside Bs As)
+bands-narrow [] [] h k = (omega arith, λ m. tt)
+bands-narrow [] (B ∷ Bs) h k = absurd k
+bands-narrow (A ∷ As) [] h k = absurd k
+bands-narrow (A ∷ As) (B ∷ Bs) h k = all-narrow _ _ _ _ _ _ (bands-width_cons A As) (bands-width_cons B Bs)
+    (band-narrow A B h.0 k.0) (bands-narrow As Bs h.1 k.1)
 
 -- the width at the first tick and the rest's
 width-cons : (B : List Interval) (Bs : Tube) → width (B ∷ Bs) ≡ bands_width B + width Bs
 unfolding bands_width
 width-cons B Bs = sum_by-cons (λ bands. sum_by (λ (A : Interval). nat_abs (A.hi -ℤ A.lo)) bands) B Bs
 
--- a tube in another is no wider
-width-le : (A B : Tube) → HasNumbers A → IsWithin A B → width A ≤ width B
-width-le [] [] h k = omega arith
-width-le [] (B ∷ Bs) h k = absurd k
-width-le (A ∷ As) [] h k = absurd k
-width-le (A ∷ As) (B ∷ Bs) h k = omega (arith, width-cons A As, width-cons B Bs, bands-width_le A B h.0 k.0, width-le As Bs h.1 k.1)
-
--- and holds this if it is no narrower
-width-low : (A B : Tube) → HasNumbers A → IsWithin A B → width B ≤ width A → IsWithin B A
-width-low [] [] h k m = tt
-width-low [] (B ∷ Bs) h k m = absurd k
-width-low (A ∷ As) [] h k m = absurd k
-width-low (A ∷ As) (B ∷ Bs) h k m =
-    let p : bands_width A ≤ bands_width B = bands-width_le A B h.0 k.0 in
-    let q : width As ≤ width Bs = width-le As Bs h.1 k.1 in (
-      bands-width_low A B h.0 k.0 (omega (arith, width-cons A As, width-cons B Bs)),
-      width-low As Bs h.1 k.1 (omega (arith, width-cons A As, width-cons B Bs)),
-    )
+-- so are tubes in others
+width-narrow : (A B : Tube) → HasNumbers A → IsWithin A B → (width A ≤ width B) × (width B ≤ width A → IsWithin B A)
+width-narrow [] [] h k = (omega arith, λ m. tt)
+width-narrow [] (B ∷ Bs) h k = absurd k
+width-narrow (A ∷ As) [] h k = absurd k
+width-narrow (A ∷ As) (B ∷ Bs) h k = all-narrow _ _ _ _ _ _ (width-cons A As) (width-cons B Bs)
+    (bands-narrow A B h.0 k.0) (width-narrow As Bs h.1 k.1)
 
 -- a strictly narrower tube with numbers has a lesser width
 pub width-falls : (A B : Tube) → HasNumbers A → IsNarrower A B → width A < width B
 width-falls A B h k = elim (cases_lt (width A) (width B)) [
   | inl l ↦ l
-  | inr l ↦ absurd (k.other (within-both A B k.within (width-low A B h k.within l)))
+  | inr l ↦ absurd (k.other (within-both A B k.within ((width-narrow A B h k.within).1 l)))
 ]

@@ -92,13 +92,12 @@ pub asked-with : (held now : SessionOf) (n : ℕ) (reader read : Feeding) (made 
 asked-with held now n reader read made tubes e k same gives =
     subst (λ (given : List Tube). Asks now reader read (Ok given)) (sym same) (asked held now n reader read (Ok tubes) e k gives)
 
--- a tick is left
-pub going-on : (held now : SessionOf) (last : ℕ) → held ≡ now → last ≡ held.parts.ticks → IsSession held →
-    now.end ≡ None → held.tick ≢ last → IsGoingOn now
-going-on held now last e k is none ne = record {
-  unended = none;
-  left = subst (λ (s : SessionOf). s.tick < s.parts.ticks) e (omega (arith, is.tick));
-}
+-- a tick of the plant of these parts is left
+pub going-on : (held now : SessionOf) (parts : FileParts) → held ≡ now → parts ≡ held.parts → IsSession held →
+    now.end ≡ None → held.tick ≢ parts.ticks → IsGoingOn now
+going-on held now parts e k is none ne =
+    let last : parts.ticks ≡ held.parts.ticks = ap (λ (p : FileParts). p.ticks) k in
+    record { unended = none; left = subst (λ (s : SessionOf). s.tick < s.parts.ticks) e (omega (arith, is.tick)) }
 
 module _ (now : SessionOf) (reader read : Feeding) (going : IsGoingOn now) where
   unfed-by : (fault : FeedFault) → Asks now reader read (Err fault) →
@@ -153,6 +152,13 @@ module _ (now : SessionOf) (reader read : Feeding) (going : IsGoingOn now) where
       IfErr r (λ answered. NextWindow false now (ended_by now answered) reader read (Err answered))
   all-ended feeds (Ok made) asks h = tt
   all-ended feeds (Err answered) asks h = ended-by feeds answered asks h
+
+-- it has the ticks that were asked for
+pub all-long : {T E : Type 0} (window : T → WindowOf) (row : T → RowBands) (now : SessionOf) (feeds : List Tube)
+    (r : Result T E) → IfOk r (λ made. IsAccepted now feeds (window made) (row made)) →
+    IfOk r (λ made. (window made).ticks ≡ next_ticks now)
+all-long window row now feeds (Err e) h = tt
+all-long window row now feeds (Ok made) h = h.stepped.run.ticks
 
 -- and where it stands then
 pub all-stand : {T E : Type 0} (window : T → WindowOf) (row : T → RowBands) (now : SessionOf) (feeds : List Tube)

@@ -149,47 +149,48 @@ module _ (records : Option (List ℕ)) (old : SessionOf) (reader read : Feeding)
 unended-new : (session : SessionOf) (end : WindowEnd) → session.end ≡ None → session.end ≡ Some end → ⊥
 unended-new session end unended was = cc
 
-module _ (relaxes : Bool) (records : Option (List ℕ)) (old new : SessionOf) (reader read : Feeding)
-    (along : IsAlong records old reader) where
-  pub window-follows : (window : WindowOf) → NextWindow relaxes old new reader read (Ok window) →
+module _ (relaxes : Bool) (records : Option (List ℕ)) (old new : SessionOf) (reader read : Feeding) where
+  pub window-follows : (window : WindowOf) → IsAlong records old reader → NextWindow relaxes old new reader read (Ok window) →
       HasRunAt old.parts records old.tick (next_ticks old) window
-  window-follows _ (given feeds window going asks run made narrow is) = has-run records old reader read feeds along going asks window run
+  window-follows _ along (given feeds window going asks run made narrow is) =
+      has-run records old reader read feeds along going asks window run
 
-  pub window-made : (window : WindowOf) → NextWindow relaxes old new reader read (Ok window) →
+  pub window-made : (window : WindowOf) → IsAlong records old reader → NextWindow relaxes old new reader read (Ok window) →
       IsMadeBy relaxes (plan_by records old) window
-  window-made _ (given feeds window going asks run made narrow is) =
+  window-made _ along (given feeds window going asks run made narrow is) =
       subst (λ (plan : PlanOf). IsMadeBy relaxes plan window) (plan-is records old reader read feeds along going asks) made
 
-  pub window-taken : (window : WindowOf) → NextWindow relaxes old new reader read (Ok window) →
+  pub window-taken : (window : WindowOf) → IsAlong records old reader → NextWindow relaxes old new reader read (Ok window) →
       refusal_by old.parts records (old.tick + next_ticks old) ≡ None
-  window-taken _ (given feeds window going asks run made narrow is) = (gives-by records old reader read feeds along going asks).0
+  window-taken _ along (given feeds window going asks run made narrow is) = (gives-by records old reader read feeds along going asks).0
 
-  pub window-narrow : (window : WindowOf) → NextWindow relaxes old new reader read (Ok window) →
+  pub window-narrow : (window : WindowOf) → IsAlong records old reader → NextWindow relaxes old new reader read (Ok window) →
       AreNarrowEnough old.parts (bands_by records old) old.tick (next_ticks old)
-  window-narrow _ (given feeds window going asks run made narrow is) = narrow-alike old.parts _ _ old.tick (next_ticks old)
+  window-narrow _ along (given feeds window going asks run made narrow is) = narrow-alike old.parts _ _ old.tick (next_ticks old)
       (bands-are records old reader read feeds along going asks) narrow
 
   pub goes-along : ((plan : PlanOf) → IsPlan plan → AreCarried plan.parts (states_after plan)) →
-      (window : WindowOf) → NextWindow relaxes old new reader read (Ok window) → IsAlong records new read
-  goes-along law _ (given feeds window going asks run made narrow is) =
+      (window : WindowOf) → IsAlong records old reader → NextWindow relaxes old new reader read (Ok window) →
+      IsAlong records new read
+  goes-along law _ along (given feeds window going asks run made narrow is) =
       subst (λ (session : SessionOf). IsAlong records session read) (sym is)
       (along-on records old reader read feeds along going asks law)
 
-  pub wide-follows : (place : TooWide) → NextWindow relaxes old new reader read (Err (end.Wide place)) →
+  pub wide-follows : (place : TooWide) → IsAlong records old reader → NextWindow relaxes old new reader read (Err (end.Wide place)) →
       IsFirstWide old.parts (bands_by records old) old.tick (next_ticks old) place
-  wide-follows _ (wide feeds place going asks first is) = first-alike old.parts _ _ old.tick (next_ticks old) place
+  wide-follows _ along (wide feeds place going asks first is) = first-alike old.parts _ _ old.tick (next_ticks old) place
       (bands-are records old reader read feeds along going asks) first
-  wide-follows place (again end was same is) = absurd (unended-new old end along.unended was)
+  wide-follows place along (again end was same is) = absurd (unended-new old end along.unended was)
 
-  pub wide-taken : (place : TooWide) → NextWindow relaxes old new reader read (Err (end.Wide place)) →
+  pub wide-taken : (place : TooWide) → IsAlong records old reader → NextWindow relaxes old new reader read (Err (end.Wide place)) →
       refusal_by old.parts records (old.tick + next_ticks old) ≡ None
-  wide-taken _ (wide feeds place going asks first is) = (gives-by records old reader read feeds along going asks).0
-  wide-taken place (again end was same is) = absurd (unended-new old end along.unended was)
+  wide-taken _ along (wide feeds place going asks first is) = (gives-by records old reader read feeds along going asks).0
+  wide-taken place along (again end was same is) = absurd (unended-new old end along.unended was)
 
-  pub fed-by : (fault : FeedFault) → NextWindow relaxes old new reader read (Err (end.Feed fault)) →
+  pub fed-by : (fault : FeedFault) → IsAlong records old reader → NextWindow relaxes old new reader read (Err (end.Feed fault)) →
       (refusal_by old.parts records (old.tick + next_ticks old) ≡ Some fault) ⊎ IsFailure fault
-  fed-by _ (unfed fault going asks other is) = asks.by along.faultless records along.stands
-  fed-by fault (again end was same is) = absurd (unended-new old end along.unended was)
+  fed-by _ along (unfed fault going asks other is) = asks.by along.faultless records along.stands
+  fed-by fault along (again end was same is) = absurd (unended-new old end along.unended was)
 
 -- where all of a text of records is taken, nothing is left of it
 pub read-whole : (relaxes : Bool) (text : List ℕ) (old new : SessionOf) (reader read : Feeding) (window : WindowOf) →

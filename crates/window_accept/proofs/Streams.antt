@@ -1,6 +1,6 @@
 -- A stream of a plant: whether it is a signal, and how wide its channels' bands can be.
 use Rattle.std.proofs.Common.{◌≡◌, ◌∙◌, ℕ, zero, suc, ◌+◌, ◌-◌, ◌<◌, pos, Bool, true, false, List, [], ◌∷◌, length, get_or}
-use Rattle.std.proofs.Common.{refl, sym, ap, subst, arith}
+use Rattle.std.proofs.Common.{refl, sym, ap, subst, arith, Option}
 use Rattle.std.specs.Prelude.{slice_index_or}
 use Rattle.std.proofs.lemmas.Int.{ints}
 use Rattle.std.proofs.lemmas.List.{get_or_default}
@@ -20,12 +20,24 @@ use Rattle.plant.proofs.PlantLaws.{plant-sound}
 use Rattle.relaxation.specs.Tube.{Tube, at}
 use Rattle.relax_core.specs.Settled.{WindowOf, bands_in}
 use Rattle.window_accept.specs.Wide.{asked_of, is_signal}
-use Rattle.window_accept.specs.Searching.{AreWide, IsInLimits}
+use Rattle.window_accept.specs.declared.channels.WideChannel.{WideChannel}
+use Rattle.window_accept.specs.Searching.{AreWide, IsInLimits, FindsChannel}
 
 pub signal-is : (parts : FileParts) (streams : List Stream) (s : ℕ) (d : Stream) → s < length (streams_of parts) →
     streams ≡ streams_of parts → (get_or streams s d).signal ≡ is_signal parts s
 signal-is parts streams s d l e = ap (λ (list : List Stream). (get_or list s d).signal) e
     ∙ sym (at-map (λ (stream : Stream). stream.signal) (streams_of parts) s d false l)
+
+-- and of one that was read from them
+pub signal-of : (parts : FileParts) (streams : List Stream) (s : ℕ) (x : Stream) → x ≡ get_or streams s x →
+    s < length (streams_of parts) → streams ≡ streams_of parts → x.signal ≡ is_signal parts s
+signal-of parts streams s x read l e = ap (λ (y : Stream). y.signal) read ∙ signal-is parts streams s x l e
+
+-- what is found by the widths of a plant is found by those of its parts
+pub asked-by : (found : Option WideChannel) (held parts : FileParts) (signal : Bool) (row : List Interval) → held ≡ parts →
+    FindsChannel found (asked_of held.width signal) row → FindsChannel found (asked_of parts.width signal) row
+asked-by found held parts signal row e h =
+    subst (λ (p : FileParts). FindsChannel found (asked_of p.width signal) row) e h
 
 -- as many widths can be asked for as there are limits
 both-counted : (limits : Limits) (widths : Widths) (signal : Bool) →

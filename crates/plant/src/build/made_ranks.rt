@@ -18,7 +18,7 @@ use plant_names::Text;
 use plant_streams::Stream;
 use plant_units::Unit;
 use std::alloc::{AllocError, Global};
-use topology::{RankFault, ranks, ranks_are_found};
+use topology::{Links, RankFault, ranks, ranks_are_found};
 
 /// The greatest rank that a unit may have.
 const MOST_RANK: u32 = 16;
@@ -45,14 +45,8 @@ fn unit_name(alloc: Global, parts: &Parts, unit: usize) -> Result<Text, AllocErr
 }
 
 /// The ranks of the units of parts that pass all checks, or why there are none.
-fn found_ranks(
-    alloc: Global,
-    parts: &Parts,
-    streams: &[Stream],
-    units: &[Unit],
-) -> Result<Vec<u32>, RankFault>
-    requires streams { streams.now ≡ streams_of parts.now }
-    requires units { units.now ≡ units_of parts.now }
+fn found_ranks(alloc: Global, parts: &Parts, links: &Links) -> Result<Vec<u32>, RankFault>
+    requires links { links.now ≡ links_of parts.now }
     requires passes { checked parts.now ≡ Ok tt }
     ensures ranked { IfOk result (λ ranks. AreRanks (links_of parts.now) ranks.items) }
     ensures found { IfOk result (λ ranks. ranks.items ≡ ranks_of parts.now) }
@@ -61,8 +55,7 @@ fn found_ranks(
     parts.ranges();
     checked_parts_are_sound();
     ranks_are_found();
-    let links = links_of(alloc, streams, units)?;
-    ranks(alloc, &links)
+    ranks(alloc, links)
 }
 
 /// Refuses ranks of which one is above 16.
@@ -97,7 +90,8 @@ pub(crate) fn ranks_of(
     ensures ranks { IfOk result (λ ranks. ranks.items ≡ ranks_of parts.now) }
     ensures exact { Builds result parts.now }
 {
-    match found_ranks(alloc, parts, streams, units) {
+    let links = links_of(alloc, streams, units)?;
+    match found_ranks(alloc, parts, &links) {
         Ok(ranks) => shallow(alloc, parts, ranks),
         Err(RankFault::Loop { unit }) => {
             Err(Unbuilt::Fault(PlantFault::InstantLoop {

@@ -5,13 +5,11 @@ use Rattle.plant_streams.specs.declared.streams.Stream.{Stream}
 use Rattle.plant_streams.specs.declared.streams.StreamSource.TheVariants as source
 use Rattle.relax_core.specs.Settled.{WindowOf, bands_in}
 use Rattle.relax_core.proofs.Turning.{origin-read}
-use Rattle.parts.specs.Parts.{FileParts}
-use Rattle.parts.specs.declared.parts.Widths.{Widths}
-use Rattle.window_accept.specs.Wide.{asked_of, is_signal}
+use Rattle.window_accept.specs.Wide.{asked_of}
 use Rattle.window_accept.specs.Searching.{FindsChannel, FindsInStream}
 use Rattle.relax_core.specs.Stepping.{IsOutputOf}
 use Rattle.window_accept.specs.declared.wide.TooWide.{TooWide}
-use Rattle.window_accept.proofs.Streams.{signal-is, limits-counted, row-wide, row-in, row-counted, row-inside}
+use Rattle.window_accept.proofs.Streams.{signal-of, asked-by, limits-counted, row-wide, row-in, row-counted, row-inside}
 use Rattle.window_accept.proofs.Places.{unfed, none-in-stream, found-in-stream, same-place}
 use Rattle.window_accept.proofs.wide.wide_in_stream.Goals as goal
 
@@ -41,12 +39,10 @@ pub returns-in_err-found : goal.returns-in_err-found
 returns-in_err-found c =
     let x = c.index-streams-stream.result in
     let parts = c.args.plant.now in
-    let widths : c.behind-plant-2.inside.width ≡ parts.width = ap (λ (p : FileParts). p.width)
-    (c.behind-plant-2.view_is ∙ c.parts-2.ensures.parts) in
-    let signal : x.signal ≡ is_signal parts c.args.stream = ap (λ (y : Stream). y.signal) c.index-streams-stream.is
-    ∙ signal-is parts c.streams.result.now c.args.stream x c.requires.stream c.streams.ensures in
+    let signal = signal-of parts c.streams.result.now c.args.stream x c.index-streams-stream.is c.requires.stream
+    c.streams.ensures in
     let none : FindsChannel None (asked_of parts.width x.signal) c.row-row.result.now =
-    subst (λ (w : Widths). FindsChannel None (asked_of w x.signal) c.row-row.result.now) widths c.in_err-found.ensures in
+    asked-by None _ parts x.signal _ (c.behind-plant-2.view_is ∙ c.parts-2.ensures.parts) c.in_err-found.ensures in
     let bands = bands_in c.args.window.now in
     let t : ℕ = c.args.window.now.first + c.args.tick in
     subst (λ (r : Option TooWide). FindsInStream r parts bands t c.args.stream) (sym c.from_residual.ensures)
@@ -58,14 +54,11 @@ pub returns : goal.returns
 returns c =
     let x = c.index-streams-stream.result in
     let parts = c.args.plant.now in
-    let widths : c.behind-plant-2.inside.width ≡ parts.width = ap (λ (p : FileParts). p.width)
-    (c.behind-plant-2.view_is ∙ c.parts-2.ensures.parts) in
-    let signal : x.signal ≡ is_signal parts c.args.stream = ap (λ (y : Stream). y.signal) c.index-streams-stream.is
-    ∙ signal-is parts c.streams.result.now c.args.stream x c.requires.stream c.streams.ensures in
+    let signal = signal-of parts c.streams.result.now c.args.stream x c.index-streams-stream.is c.requires.stream
+    c.streams.ensures in
     let found = c.in_ok-found.found in
     let first : FindsChannel (Some found) (asked_of parts.width x.signal) c.row-row.result.now =
-    subst (λ (w : Widths). FindsChannel (Some found) (asked_of w x.signal) c.row-row.result.now) widths
-    c.in_ok-found.ensures in
+    asked-by (Some found) _ parts x.signal _ (c.behind-plant-2.view_is ∙ c.parts-2.ensures.parts) c.in_ok-found.ensures in
     let bands = bands_in c.args.window.now in
     let t : ℕ = c.args.window.now.first + c.args.tick in
     let given = subst IsOutputOf (sym (origin-read parts c.streams.result.now c.args.stream x

@@ -10,7 +10,7 @@ use Rattle.quant.specs.Term.{interval}
 use Rattle.quant.proofs.Calls.{filled, same_cons, inside-length, read, hulled2, hulled4}
 use Rattle.basic_units.specs.Mixer.{flow_of, content_of, streams}
 use Rattle.basic_units.proofs.Reactors.{joined-wide}
-use Rattle.basic_units.proofs.Mixers.{AreMixedBands, channel-room, channel-inside, channels-inside, streams-length, flow-more_bands, content-more_bands, sum-inside}
+use Rattle.basic_units.proofs.Mixers.{AreMixedBands, channel-inside, channels-inside, streams-length, flow-more_bands, content-more_bands, sum-inside}
 use Rattle.basic_units.proofs.Ranges.{flow-inside, content-inside}
 use Rattle.basic_units.proofs.mixer.MixerInstant.now_band.Goals as goal
 
@@ -31,17 +31,6 @@ loop-i-init c =
       conc_held = held.conc;
       temp_held = held.temp;
     }
-
-pub bounds-ins-i : goal.bounds-ins-i
-bounds-ins-i c =
-    let h = channel-room _ c.loop-i.i 0 _ (inside-length _ _ c.requires.inputs) c.loop-i-test.true (lit< tt) in
-    omega arith
-
-pub bounds-ins-i-in-loop-i : goal.bounds-ins-i-in-loop-i
-bounds-ins-i-in-loop-i c = channel-room _ c.loop-i.i 1 _ (inside-length _ _ c.requires.inputs) c.loop-i-test.true (lit< tt)
-
-pub bounds-ins-i-in-loop-i-2 : goal.bounds-ins-i-in-loop-i-2
-bounds-ins-i-in-loop-i-2 c = channel-room _ c.loop-i.i 2 _ (inside-length _ _ c.requires.inputs) c.loop-i-test.true (lit< tt)
 
 pub mix_band-conc-requires : goal.mix_band-conc-requires
 mix_band-conc-requires c =

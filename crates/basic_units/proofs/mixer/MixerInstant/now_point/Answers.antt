@@ -1,14 +1,14 @@
 -- Each stream is mixed into those before it.
-use Rattle.std.proofs.Common.{◌≡◌, ℤ, pos, ◌+◌, ◌-◌, ◌*◌, ◌+ℤ◌, to_z, of_z, rules, [], ◌∷◌, refl, subst, ◌∙◌, lit<, arith}
+use Rattle.std.proofs.Common.{◌≡◌, ℤ, pos, ◌+◌, ◌-◌, ◌*◌, ◌+ℤ◌, to_z, of_z, rules, [], ◌∷◌, refl, subst, ◌∙◌, arith}
 use Rattle.std.proofs.lemmas.Int.{ints, clamps, to_z-of_z}
 use Rattle.std.specs.Int.{w64}
 use Rattle.std.specs.Prelude.{slice_index_or}
 use Rattle.quant.specs.Rounding.{Floor}
 use Rattle.quant.specs.Operation.{mix, clamp}
 use Rattle.quant.specs.Term.{value}
-use Rattle.quant.proofs.Calls.{filled, same_cons, held-length, given1, given2, given4}
+use Rattle.quant.proofs.Calls.{filled, same_cons, given1, given2, given4}
 use Rattle.basic_units.specs.Mixer.{flow_of, content_of}
-use Rattle.basic_units.proofs.Mixers.{AreMixed, channel-room, channels-held, flow-more, content-more}
+use Rattle.basic_units.proofs.Mixers.{AreMixed, channels-held, flow-more, content-more}
 use Rattle.basic_units.proofs.Ranges.{flow-read, content-read}
 use Rattle.basic_units.proofs.mixer.MixerInstant.now_point.Goals as goal
 
@@ -27,17 +27,6 @@ loop-i-init c =
       conc_held = record { above = omega (arith, ints); below = omega (arith, ints) };
       temp_held = record { above = omega (arith, ints); below = omega (arith, ints) };
     }
-
-pub bounds-ins-i : goal.bounds-ins-i
-bounds-ins-i c =
-    let h = channel-room _ c.loop-i.i 0 _ (held-length _ _ c.requires.inputs) c.loop-i-test.true (lit< tt) in
-    omega arith
-
-pub bounds-ins-i-in-loop-i : goal.bounds-ins-i-in-loop-i
-bounds-ins-i-in-loop-i c = channel-room _ c.loop-i.i 1 _ (held-length _ _ c.requires.inputs) c.loop-i-test.true (lit< tt)
-
-pub bounds-ins-i-in-loop-i-2 : goal.bounds-ins-i-in-loop-i-2
-bounds-ins-i-in-loop-i-2 c = channel-room _ c.loop-i.i 2 _ (held-length _ _ c.requires.inputs) c.loop-i-test.true (lit< tt)
 
 pub mix-conc-requires : goal.mix-conc-requires
 mix-conc-requires c =

@@ -89,7 +89,7 @@ returns c =
     let heated : c.add_band-heated.result ≡ hot =
     hulled2 (hull2 ◌+ℤ◌) _ c.gain_band.result _ warm
     (hull1 (gain Floor reactor.heat) reacts) c.add_band-heated.ensures.hull s.ensures.temp heat in
-    c.put_band.ensures ∙ four_same (hull1 (clamp l.volume)) (hull1 (clamp l.flow)) (hull1 (clamp l.conc))
+    c.put.ensures ∙ four_same (hull1 (clamp l.volume)) (hull1 (clamp l.flow)) (hull1 (clamp l.conc))
     (hull1 (clamp l.temp)) _ _ _ _ _ _ _ _
     (s.ensures.volume ∙ ap (λ (k : ℤ). interval Floor states ins (volume_after k)) drains)
     (s.ensures.flow ∙ ap (λ (k : ℤ). interval Floor states ins (outflow k)) drains)

@@ -68,7 +68,7 @@ returns c =
     given2 ◌+ℤ◌ (to_z w64 (of_z w64 s.result.temp)) (to_z w64 (of_z w64 c.gain.result)) _ warm
     (gain Floor reactor.heat reacts) (search rules) c.add-heated.ensures
     (to_z-of_z w64 s.result.temp (search rules) ∙ s.ensures.temp) heat in
-    c.put_point.ensures ∙ four_same (clamp reactor.limits.volume) (clamp reactor.limits.flow)
+    c.put.ensures ∙ four_same (clamp reactor.limits.volume) (clamp reactor.limits.flow)
     (clamp reactor.limits.conc) (clamp reactor.limits.temp) _ _ _ _ _ _ _ _
     (to_z-of_z w64 s.result.volume (search rules) ∙ s.ensures.volume ∙
     ap (λ (k : ℤ). value Floor state ins (volume_after k)) drains)

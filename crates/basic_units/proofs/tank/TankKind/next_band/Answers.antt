@@ -24,7 +24,7 @@ returns c =
     let ins = c.args.ins.now in
     let s = c.stir_band.ensures in
     let drains = to_z-of_z w64 c.args.self.now.k (search rules) in
-    c.put_band.ensures ∙ four_same (hull1 (clamp l.volume)) (hull1 (clamp l.flow)) (hull1 (clamp l.conc))
+    c.put.ensures ∙ four_same (hull1 (clamp l.volume)) (hull1 (clamp l.flow)) (hull1 (clamp l.conc))
     (hull1 (clamp l.temp)) _ _ _ _ _ _ _ _
     (s.volume ∙ ap (λ (k : ℤ). interval Floor states ins (volume_after k)) drains)
     (s.flow ∙ ap (λ (k : ℤ). interval Floor states ins (outflow k)) drains)

@@ -2,6 +2,6 @@
 use Rattle.basic_units.proofs.Vessels.{are_state_bands}
 use Rattle.basic_units.proofs.tank.TankKind.view_band.Goals as goal
 
-pub show_band-requires-clause-states : goal.show_band-requires-clause-states
-show_band-requires-clause-states c = are_state_bands c.args.self.now.limits c.args.state.now c.requires.sound.limits
-    c.requires.states
+pub show-requires-clause-states : goal.show-requires-clause-states
+show-requires-clause-states c = (are_state_bands c.args.self.now.limits c.args.state.now c.requires.sound.limits
+    c.requires.states).four

@@ -9,4 +9,4 @@ returns-clause-given c = grind (arith, common_steps)
 
 pub returns-clause-row : goal.returns-clause-row
 returns-clause-row c = λ parts row inside. subst (IsRow parts) (sym (returns-clause-given c))
-    (given-is-row parts c.args.self.now c.args.stream c.args.bands.now c.requires.stream c.requires.channels row inside)
+    (given-is-row parts c.args.self.now c.args.stream c.args.bands.now c.requires.stream c.requires.channels row (λ l. inside))

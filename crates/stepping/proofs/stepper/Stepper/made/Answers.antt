@@ -3,7 +3,7 @@ use Rattle.std.proofs.Common.{◌≡◌, ◌∙◌, subst, ap, refl}
 use Rattle.parts.specs.Parts.{FileParts}
 use Rattle.window_accept.specs.Session.{SessionOf, IsSession, finished}
 use Rattle.stepping.specs.declared.stepper.Stepped.{Stepped}
-use Rattle.stepping.proofs.Answered.{asked, asked-with, going-on, unfed-end, all-given, all-ended, all-stand}
+use Rattle.stepping.proofs.Answered.{asked, asked-with, going-on, unfed-end, all-given, all-ended, all-long, all-stand}
 use Rattle.stepping.proofs.stepper.Stepper.made.Goals as goal
 
 pub returns-then-self-parts-clause-err : goal.returns-then-self-parts-clause-err
@@ -17,41 +17,27 @@ judged-requires-clause-feeds g c =
     (asked-with _ c.args.self.now c.next_ticks.result _ _ _ _ c.self.view_is c.next_ticks.ensures c.as_slice.ensures
     c.in-Ok.ensures.gives).tubes
 
-pub returns-in-Ok-clause-ok : goal.returns-in-Ok-clause-ok
-returns-in-Ok-clause-ok g c =
+pub returns-in-Ok : goal.returns-in-Ok
+returns-in-Ok g c =
     let now = c.args.self.now in
-    let last = ap (λ (p : FileParts). p.ticks) (c.behind-self.view_is ∙ c.parts.ensures.parts) in
-    let going = going-on _ now _ c.self.view_is last c.self.invariant.session_is c.requires.end
-    c.if-self-parts.false in
+    let feeds = c.as_slice.result.now in
+    let going = going-on _ now _ c.self.view_is (c.behind-self.view_is ∙ c.parts.ensures.parts)
+    c.self.invariant.session_is c.requires.end c.if-self-parts.false in
     let asks = asked-with _ now c.next_ticks.result _ _ _ _ c.self.view_is c.next_ticks.ensures c.as_slice.ensures
     c.in-Ok.ensures.gives in
-    all-given now _ _ going (λ (made : Stepped). made.window) (λ made. made.row)
-    c.as_slice.result.now c.judged.result asks c.judged.ensures.ok
-
-pub returns-in-Ok-clause-stepper : goal.returns-in-Ok-clause-stepper
-returns-in-Ok-clause-stepper g c =
-    let now = c.args.self.now in
-    all-stand (λ (made : Stepped). made.window) (λ made. made.row) now c.as_slice.result.now c.judged.result
-    (subst IsSession c.self.view_is c.self.invariant.session_is) c.windows_carry_the_run.ensures.within
-    c.judged.ensures.ok
-
-pub returns-in-Ok-clause-err : goal.returns-in-Ok-clause-err
-returns-in-Ok-clause-err g c =
-    let now = c.args.self.now in
-    let last = ap (λ (p : FileParts). p.ticks) (c.behind-self.view_is ∙ c.parts.ensures.parts) in
-    let going = going-on _ now _ c.self.view_is last c.self.invariant.session_is c.requires.end
-    c.if-self-parts.false in
-    let asks = asked-with _ now c.next_ticks.result _ _ _ _ c.self.view_is c.next_ticks.ensures c.as_slice.ensures
-    c.in-Ok.ensures.gives in
-    all-ended now _ _ going c.as_slice.result.now c.judged.result asks
-    c.judged.ensures.err
+    record {
+      ok = all-given now _ _ going (λ (made : Stepped). made.window) (λ made. made.row) feeds c.judged.result asks
+          c.judged.ensures.ok;
+      ticks = all-long (λ (made : Stepped). made.window) (λ made. made.row) now feeds c.judged.result c.judged.ensures.ok;
+      stepper = all-stand (λ (made : Stepped). made.window) (λ made. made.row) now feeds c.judged.result
+          (subst IsSession c.self.view_is c.self.invariant.session_is) c.windows_carry_the_run.ensures.within
+          c.judged.ensures.ok;
+      err = all-ended now _ _ going feeds c.judged.result asks c.judged.ensures.err;
+    }
 
 pub returns-in-Err-clause-err : goal.returns-in-Err-clause-err
 returns-in-Err-clause-err g c =
     let now = c.args.self.now in
-    let last = ap (λ (p : FileParts). p.ticks) (c.behind-self.view_is ∙ c.parts.ensures.parts) in
-    let going = going-on _ now _ c.self.view_is last c.self.invariant.session_is c.requires.end
-    c.if-self-parts.false in
-    unfed-end now _ _ going c.in-Err.fault c.end_by.result c.end_by.ensures
-    (asked _ now c.next_ticks.result _ _ _ c.self.view_is c.next_ticks.ensures
-    c.in-Err.ensures.gives)
+    unfed-end now _ _ (going-on _ now _ c.self.view_is (c.behind-self.view_is ∙ c.parts.ensures.parts)
+    c.self.invariant.session_is c.requires.end c.if-self-parts.false) c.in-Err.fault c.end_by.result c.end_by.ensures
+    (asked _ now c.next_ticks.result _ _ _ c.self.view_is c.next_ticks.ensures c.in-Err.ensures.gives)
