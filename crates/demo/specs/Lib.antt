@@ -1,1 +1,3 @@
 pub mod Summary
+pub mod Adding
+pub mod Following

@@ -1,5 +1,5 @@
 -- The summary of a generated plant: how large it is, and what the bands of its interval run add up to.
-use Rattle.std.specs.Prelude.{ℕ, zero, suc, ℤ, pos, List, [], ◌∷◌, ◌++◌, codes, decimal, length, None}
+use Rattle.std.specs.Prelude.{ℕ, zero, suc, ℤ, pos, ◌+ℤ◌, ◌-ℤ◌, List, [], ◌∷◌, ◌++◌, codes, decimal, length, None}
 use Rattle.std.specs.Fmt.{signed_decimal}
 use Rattle.quant.specs.Interval.{Interval}
 use Rattle.parts.specs.Parts.{FileParts}
@@ -11,11 +11,11 @@ use Rattle.plant_gen.specs.Generated.{generated_parts}
 -- the sum over the numbers below n, and over the bands of a stream's channels
 abbrev pub sum_below : ℕ → (ℕ → ℤ) → ℤ
 sum_below zero f = pos 0
-sum_below (suc n) f = sum_below n f + f n
+sum_below (suc n) f = sum_below n f +ℤ f n
 
 abbrev pub sum_of_bands : (Interval → ℤ) → List Interval → ℤ
 sum_of_bands f [] = pos 0
-sum_of_bands f (band ∷ bands) = f band + sum_of_bands f bands
+sum_of_bands f (band ∷ bands) = f band +ℤ sum_of_bands f bands
 
 -- the sum over all rows that are printed of a plant's interval run: at each tick, for each stream, one for each of its channels
 abbrev pub sum_of_rows : (Interval → ℤ) → FileParts → ℤ
@@ -24,10 +24,10 @@ sum_of_rows f parts = sum_below parts.ticks (λ tick. sum_below (length (streams
 
 -- how wide a band is, and its two ends together
 abbrev pub width_of : Interval → ℤ
-width_of band = band.hi - band.lo
+width_of band = band.hi -ℤ band.lo
 
 abbrev pub ends_of : Interval → ℤ
-ends_of band = band.lo + band.hi
+ends_of band = band.lo +ℤ band.hi
 
 -- a line: a name, a space, a number, and a line feed
 abbrev pub line_of : List ℕ → List ℕ → List ℕ

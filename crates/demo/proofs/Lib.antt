@@ -1,0 +1,4 @@
+pub mod Totals
+pub mod Bounds
+pub mod Small
+pub mod Passing
