@@ -1,10 +1,10 @@
 -- How large sums can be.
-use Rattle.std.proofs.Common.{◌≡◌, ℕ, zero, suc, ◌+◌, ◌*◌, ◌<◌, ◌≤◌, ◌^◌, ℤ, pos, ◌+ℤ◌, List, [], ◌∷◌, length, take, get_or, refl, sym, ap, subst, arith}
+use Rattle.std.proofs.Common.{◌≡◌, ℕ, zero, suc, ◌+◌, ◌*◌, ◌<◌, ◌≤◌, ◌^◌, ℤ, ◌+ℤ◌, List, [], ◌∷◌, length, take, get_or, sym, subst, arith}
 use Rattle.std.specs.List.{AllByRecursion}
 use Rattle.std.specs.Prelude.{slice_index_or}
 use Rattle.std.proofs.lemmas.Int.{ints}
 use Rattle.std.proofs.Math.Seq.{take-length}
-use Rattle.quant.specs.Interval.{Interval, Holds, IsBand, IsInside, around, wide}
+use Rattle.quant.specs.Interval.{Interval, Holds, around}
 use Rattle.relaxation.specs.Tube.{at}
 use Rattle.relax_core.specs.Settled.{WindowOf}
 use Rattle.demo.specs.declared.sums.Sums.{Sums}

@@ -1,5 +1,5 @@
 -- The windows of a plant that asks for no widths, one after another, and their sums.
-use Rattle.std.proofs.Common.{◌≡◌, ◌∙◌, ◌⊎◌, inl, inr, ℕ, zero, suc, ◌+◌, ◌*◌, ◌<◌, ◌≤◌, min, ℤ, pos, ◌+ℤ◌, Bool, true, false, ◌-◌, List, [], length, refl, sym, ap, subst, arith, Option, Some, None, Ok, Err}
+use Rattle.std.proofs.Common.{◌≡◌, ◌∙◌, ◌⊎◌, inl, inr, ℕ, zero, suc, ◌+◌, ◌*◌, ◌<◌, ◌≤◌, min, ℤ, pos, ◌+ℤ◌, Bool, true, false, ◌-◌, [], length, refl, sym, ap, subst, arith, Some, None, Err}
 use Rattle.std.specs.Prelude.{slice_index_or}
 use Rattle.std.proofs.lemmas.Int.{ints}
 use Rattle.quant.specs.Interval.{Interval}
@@ -15,7 +15,7 @@ use Rattle.feeds.specs.declared.reader.FeedFault.{FeedFault}
 use Rattle.relax_core.specs.Settled.{WindowOf}
 use Rattle.window_accept.specs.declared.wide.TooWide.{TooWide}
 use Rattle.window_accept.specs.declared.end.WindowEnd.TheVariants.{Finished, Feed, Wide}
-use Rattle.window_accept.specs.Wide.{asked_of, asked_at, is_signal}
+use Rattle.window_accept.specs.Wide.{asked_of, is_signal}
 use Rattle.window_accept.specs.Searching.{AsksForNone}
 use Rattle.window_accept.specs.Session.{SessionOf, IsSession, FollowsRun, opening_session, IsAlong, HasRunAt, NextWindow, finished, unfed, wide, again, next_ticks}
 use Rattle.window_accept.proofs.Following.{ticks-inside}

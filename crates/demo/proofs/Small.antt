@@ -1,12 +1,10 @@
 -- The rows of a plant's interval run are small.
-use Rattle.std.proofs.Common.{◌≡◌, ◌∙◌, ℕ, zero, suc, ◌+◌, ◌<◌, ◌≤◌, pos, Bool, true, false, List, [], ◌∷◌, length, get_or, refl, sym, ap, subst, arith, None}
-use Rattle.std.specs.Prelude.{slice_index_or}
+use Rattle.std.proofs.Common.{◌≡◌, ◌∙◌, ℕ, zero, suc, ◌+◌, ◌<◌, ◌≤◌, Bool, true, false, List, [], ◌∷◌, length, get_or, refl, sym, ap, subst, arith, None}
 use Rattle.std.specs.List.{AllByRecursion}
-use Rattle.quant.specs.Interval.{Interval, AllBands, AllInside, IsInside, point, wide}
+use Rattle.quant.specs.Interval.{Interval, AllBands, AllInside}
 use Rattle.quant.proofs.Calls.{inside-length}
 use Rattle.flowsheet.proofs.Runs.{streams-bands}
-use Rattle.relaxation.specs.Tube.{at, tube_of}
-use Rattle.relaxation.specs.Window.{run_tube}
+use Rattle.relaxation.specs.Tube.{at}
 use Rattle.relaxation.proofs.Ticks.{at-tube_of}
 use Rattle.parts.specs.Parts.{FileParts}
 use Rattle.parts.specs.declared.parts.Widths.{Widths}
@@ -19,7 +17,7 @@ use Rattle.plant.specs.Rows.{streams_of_run}
 use Rattle.plant.specs.Sound.{IsPlant}
 use Rattle.plant.proofs.Lookups.{streams-counted}
 use Rattle.plant.proofs.PlantLaws.{parts-ranked, parts-bands}
-use Rattle.renewal.specs.Plan.{PlanOf, IsPlan, window_of}
+use Rattle.renewal.specs.Plan.{IsPlan}
 use Rattle.renewal.proofs.Carrying.{run-limited}
 use Rattle.feeds.specs.Given.{given_by, run_plan}
 use Rattle.feeds.proofs.Windows.{is-plan, run-is}
@@ -67,9 +65,12 @@ module _ (parts : FileParts) (plant : IsPlant parts) (t s : ℕ) (inside : t < p
   run-small =
       let stream : Stream = record { name = []; signal = false; source = source.Feed 0 } in
       record {
-        few = omega (arith, inside-length row (limits_at parts s) row-limited,
-            limits-counted parts parts.width (streams_of parts) s stream there refl,
-            few-asked parts.width (get_or (streams_of parts) s stream).signal);
+        few = omega (
+          arith,
+          inside-length row (limits_at parts s) row-limited,
+          limits-counted parts parts.width (streams_of parts) s stream there refl,
+          few-asked parts.width (get_or (streams_of parts) s stream).signal,
+        );
         bands = wide-bands row row-bands (row-wide parts s stream row plant there row-limited);
       }
 

@@ -1,5 +1,5 @@
 -- Words of the proofs: a session that follows the run of a plant, and the sums so far.
-use Rattle.std.specs.Prelude.{◌≡◌, ◌+◌, ◌≤◌, ◌*◌, ℕ, ℤ, List, [], length, Some, None}
+use Rattle.std.specs.Prelude.{◌≡◌, ◌+◌, ◌≤◌, ◌*◌, ℕ, ℤ, [], length, Some, None}
 use Rattle.quant.specs.Interval.{Interval}
 use Rattle.parts.specs.Parts.{FileParts}
 use Rattle.plant_streams.specs.Streams.{streams_of}

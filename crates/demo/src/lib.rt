@@ -3,8 +3,8 @@
 
 mod run_sums;
 mod summary;
-mod summary_lines;
 mod sums;
+mod texts;
 mod window_sums;
 
 pub use summary::summary_of;

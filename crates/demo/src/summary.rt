@@ -2,12 +2,10 @@
 
 ghost use Rattle.std.specs.Prelude.{◌≡◌, ◌≤◌, IfOk};
 ghost use Rattle.plant_gen.specs.Generated.{generated_parts, longest_train};
-ghost use Rattle.demo.specs.Summary.{sum_of_rows, summary};
-ghost use Rattle.demo.specs.Adding.{AreSums};
+ghost use Rattle.demo.specs.Summary.{summary};
 
-use crate::summary_lines::add_line;
-use crate::run_sums::{run_sums, window_count};
-use crate::sums::Sums;
+use crate::run_sums::run_sums;
+use crate::texts::summary_text;
 use plant::{Plant, Unbuilt};
 use plant_gen::{generated_plants_are_plants, plant_of};
 use plant_names::Text;
@@ -28,29 +26,6 @@ fn generated_plant(alloc: Global, stages: u32) -> Result<Plant, AllocError>
         Err(Unbuilt::NoMemory) => Err(AllocError),
         Err(Unbuilt::Fault(_)) => unreachable!(),
     }
-}
-
-/// The lines of the summary.
-fn summary_text(
-    alloc: Global,
-    stages: u32,
-    plant: &Plant,
-    sums: Sums,
-) -> Result<Text, AllocError>
-    requires plant { plant.now ≡ generated_parts stages }
-    requires sums { AreSums sums (λ f. sum_of_rows f (generated_parts stages)) }
-    ensures { IfOk result (λ text. text ≡ summary stages) }
-{
-    let mut text = Vec::new(alloc);
-    let parts = plant.parts();
-    add_line(&mut text, b"demo", i64::from(stages))?;
-    add_line(&mut text, b"units", plant.units().len() as i64)?;
-    add_line(&mut text, b"streams", plant.streams().len() as i64)?;
-    add_line(&mut text, b"ticks", i64::from(parts.ticks))?;
-    add_line(&mut text, b"windows", i64::from(window_count(parts)))?;
-    add_line(&mut text, b"width", sums.width)?;
-    add_line(&mut text, b"ends", sums.ends)?;
-    Ok(Text::new(text))
 }
 
 /// The summary of the generated plant of so many stages, 1 to 80: `demo N`, then its numbers of units, streams, ticks and windows,

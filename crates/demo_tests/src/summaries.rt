@@ -3,8 +3,8 @@
 use crate::stepped::stepped_summary;
 use demo::summary_of;
 use relax_core::NoChaos;
-use std::process::Abort;
 use std::alloc::Global;
+use std::process::Abort;
 use std::test::Fail;
 use std::thread::Threads;
 
@@ -41,7 +41,10 @@ fn has_summary<R: Abort + Threads + Sync>(
     let relaxed = summary_of(rt, alloc, stages, NoChaos::new())?;
     assert!(rt; relaxed.as_bytes() == text.as_bytes(), "{stages} stages");
     let stepped = stepped_summary(rt, alloc, stages)?;
-    assert!(rt; stepped.as_bytes() == text.as_bytes(), "{stages} stages, stepped");
+    assert!(rt;
+        stepped.as_bytes() == text.as_bytes(),
+        "{stages} stages, stepped"
+    );
     Ok(())
 }
 

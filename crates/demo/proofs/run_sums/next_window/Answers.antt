@@ -1,5 +1,4 @@
-use Rattle.std.proofs.Common.{◌≡◌, true, None, Ok, Err, refl, sym, subst}
-use Rattle.feeds.specs.ReaderOf.{Feeding}
+use Rattle.std.proofs.Common.{true, None, Ok, Err, refl, sym}
 use Rattle.window_accept.specs.declared.end.WindowEnd.TheVariants.{Finished, Feed, Wide}
 use Rattle.window_accept.specs.Session.{NextWindow}
 use Rattle.demo.specs.Following.{plain_feeding}

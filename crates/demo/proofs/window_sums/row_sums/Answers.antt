@@ -1,5 +1,5 @@
 use Rattle.std.proofs.Common.{◌∙◌, ◌+ℤ◌, take, sym, ap, arith}
-use Rattle.demo.specs.Summary.{sum_of_bands, width_of, ends_of}
+use Rattle.demo.specs.Summary.{sum_of_bands}
 use Rattle.demo.proofs.Totals.{added-up, bands-more}
 use Rattle.demo.proofs.Bounds.{far-inside, part-within}
 use Rattle.demo.proofs.window_sums.row_sums.Goals as goal
