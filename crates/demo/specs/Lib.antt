@@ -1,1 +1,4 @@
 pub mod Summary
+pub mod Adding
+pub mod Following
+pub mod Sizes

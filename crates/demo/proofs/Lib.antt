@@ -1,0 +1,5 @@
+pub mod Totals
+pub mod Bounds
+pub mod Small
+pub mod Passing
+pub mod Trains
