@@ -34,25 +34,27 @@ fn gather_at(tubes: &[Tube], tick: u32, ins: &mut [Band]) -> usize
     place
 }
 
-/// Renews one unit at one tick: shows its outputs, and steps its states; `new` has room for them.
+/// Renews one unit at one tick: shows its outputs, and steps its states; `ins` has room for what it takes, and `new` for
+/// its states.
 fn renew_tick(
     plan: &WindowPlan<'_>,
     unit: u32,
     inputs: &Inputs,
     tick: u32,
+    ins: &mut [Band],
     new: &mut [Band],
     outputs: &mut Outputs,
 )
     requires unit { unit < length (units_of plan.now.parts) }
     requires inputs { AreOpened plan.now (planned plan.now unit).reads inputs.now }
     requires tick { tick < plan.now.ticks }
+    requires taken { 24 ≤ length ins.old }
     requires room { length new.old ≡ length (planned plan.now unit).state_limits }
     requires renewed { IsRenewed plan.now unit inputs.now tick outputs.old }
     ensures { IsRenewed plan.now unit inputs.now (tick + 1) outputs.new }
 {
     let giver = plan.unit(unit);
-    let mut ins = [Band::point(0); INPUTS];
-    let count = gather_at(inputs.as_slice(), tick, &mut ins);
+    let count = gather_at(inputs.as_slice(), tick, ins);
     outputs.show(giver, tick, &ins[..count]);
     outputs.step(giver, tick, &ins[..count], new);
 }
@@ -67,10 +69,11 @@ fn renew_ticks(plan: &WindowPlan<'_>, unit: u32, inputs: &Inputs, from: u32, out
     ensures room { HasRoomFor plan.now unit outputs.new }
 {
     let states = plan.carried().unit(unit).len();
+    let mut ins = [Band::point(0); INPUTS];
     let mut room = [Band::point(0); STATES];
     let new = &mut room[..states];
     for tick in from..plan.ticks() {
-        renew_tick(plan, unit, inputs, tick, new, outputs);
+        renew_tick(plan, unit, inputs, tick, &mut ins, new, outputs);
     }
 }
 

@@ -56,8 +56,9 @@ gather_at-count-requires-clause-room c =
     let plan = c.args.plan.now in
     let x = c.unit-giver.result.now in
     let g = c.unit-giver.ensures in
-    rw c.as_slice.ensures (takes-few x (row_of c.args.inputs.now c.args.tick) g.sound.sound
-    (row-taken plan c.args.unit x g c.args.tick c.args.inputs.now c.requires.tick c.requires.inputs))
+    let few = takes-few x (row_of c.args.inputs.now c.args.tick) g.sound.sound
+    (row-taken plan c.args.unit x g c.args.tick c.args.inputs.now c.requires.tick c.requires.inputs) in
+    rw c.as_slice.ensures (omega (arith, few, c.requires.taken))
 
 pub show-requires-clause-sound : goal.show-requires-clause-sound
 show-requires-clause-sound c = c.unit-giver.ensures.sound.sound
