@@ -57,3 +57,6 @@ impl<'a, R: Files> Sink for FileSink<'a, R> {
         }
     }
 }
+
+#[cfg(test)]
+mod tests;

@@ -60,3 +60,6 @@ impl<'a, R: Files> Source for FileSource<'a, R> {
         }
     }
 }
+
+#[cfg(test)]
+mod tests;
