@@ -36,3 +36,6 @@ impl<'a, R: Files> Sink for NamedFile<'a, R> {
         }
     }
 }
+
+#[cfg(test)]
+mod tests;

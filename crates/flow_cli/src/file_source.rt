@@ -39,3 +39,6 @@ impl<'a, R: Files> Source for NamedFile<'a, R> {
         }
     }
 }
+
+#[cfg(test)]
+mod tests;

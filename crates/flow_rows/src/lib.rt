@@ -6,6 +6,8 @@ mod calls;
 #[cfg(test)]
 mod cases;
 #[cfg(test)]
+mod records;
+#[cfg(test)]
 mod runs;
 #[cfg(test)]
 mod sources;

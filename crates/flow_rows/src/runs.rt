@@ -43,7 +43,7 @@ pub fn spoken(alloc: Global, words: &[&str]) -> Result<Vec<Word>, Fail> {
     Ok(spoken)
 }
 
-/// Calls the program.
+/// Calls the program with no feed records.
 pub fn call<R, S>(
     rt: &R,
     alloc: Global,
@@ -55,6 +55,23 @@ where
     R: Abort + Threads + Sync,
     S: Source,
 {
+    call_fed(rt, alloc, words, plant, &mut NoSource, sinks)
+}
+
+/// Calls the program with feed records.
+pub fn call_fed<R, S, E>(
+    rt: &R,
+    alloc: Global,
+    words: &[&str],
+    plant: &mut S,
+    records: &mut E,
+    sinks: Sinks,
+) -> Result<Answer, Fail>
+where
+    R: Abort + Threads + Sync,
+    S: Source,
+    E: Source,
+{
     let spoken = spoken(alloc, words)?;
     let failing_writes = Vec::from_slice(alloc, sinks.failing_writes)?;
     let failing_err_writes = Vec::from_slice(alloc, sinks.failing_err_writes)?;
@@ -63,15 +80,7 @@ where
     let mut trace = MemSink::new(alloc, 200_000, failing_trace_writes)?;
     let mut err = MemSink::new(alloc, 200, failing_err_writes)?;
     let status = flow_top(
-        rt,
-        alloc,
-        &spoken,
-        plant,
-        &mut NoSource,
-        &mut out,
-        &mut trace,
-        &mut err,
-        &OpenGate,
+        rt, alloc, &spoken, plant, records, &mut out, &mut trace, &mut err, &OpenGate,
     );
     Ok(Answer {
         status,

@@ -2,6 +2,8 @@
 #![tactic(auto)]
 
 #[cfg(test)]
+mod adoptions;
+#[cfg(test)]
 mod boards;
 #[cfg(test)]
 mod carrying;

@@ -4,11 +4,11 @@ ghost use Rattle.std.specs.Prelude.{◌≡◌};
 ghost use Rattle.relax_core.specs.Adopting.{made_row};
 
 use crate::renewals::{LEVEL, WORKED_TANK, has_rows};
-use crate::windows::plant_with_units;
+use crate::windows::{plant_with_units, settled};
 use feeds::FeedReader;
 use flow_edge::NoSource;
 use plant::Plant;
-use relax_core::{Board, Chaos, Made, NoChaos, Refs, StepRow, Window};
+use relax_core::{Chaos, Made, NoChaos, Refs, StepRow, Window};
 use renewal::WindowPlan;
 use std::alloc::{AllocError, Global};
 use std::process::Abort;
@@ -24,19 +24,17 @@ struct LevelFirst {
     rows: Vec<StepRow>,
 }
 
-/// The last version of stream 3 on a settled board of a plan, where there is such a stream.
+/// The first version of stream 3 of a plan, where there is such a stream.
 fn level_of(alloc: Global, plan: &WindowPlan<'_>) -> Result<Option<Made>, AllocError> {
     if plan.plant().streams().len() != 4 {
         return Ok(None);
     }
-    let mut board = Board::open(alloc, plan)?;
-    board.settle(alloc)?;
     Ok(Some(Made {
         stream: 3,
         number: 1,
         stamp: 1,
         refs: Refs::of(&[0, 0]),
-        tube: board.last(3).copied(alloc)?,
+        tube: settled(alloc, plan, 3)?,
     }))
 }
 

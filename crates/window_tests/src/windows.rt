@@ -1,12 +1,17 @@
 //! Windows of plants for tests.
 
+ghost use Rattle.std.specs.Prelude.{◌<◌, length};
+ghost use Rattle.plant_streams.specs.Streams.{streams_of};
+
 use feeds::{given_tubes, windows_cut_the_run};
 use plant::Plant;
 use plant_texts::{LOW_FLOW, Unit, plant_with};
+use relax_core::Board;
 use renewal::{Carried, WindowPlan};
-use std::alloc::Global;
+use std::alloc::{AllocError, Global};
 use std::test::Fail;
 use text_plants::plant_in;
+use tubes::Tube;
 
 /// The plant of the two feeds and these units, with a low limit of flows.
 pub fn plant_with_units(alloc: Global, units: &[Unit]) -> Result<Plant, Fail> {
@@ -22,4 +27,13 @@ pub fn window_in<'p>(alloc: Global, plant: &'p Plant, ticks: u32) -> Result<Wind
     let feeds = given_tubes(alloc, plant, 0, ticks)?;
     windows_cut_the_run();
     Ok(WindowPlan::new(plant, 0, ticks, carried, feeds))
+}
+
+/// The last version of a stream on a settled board of a plan.
+pub fn settled(alloc: Global, plan: &WindowPlan<'_>, stream: u32) -> Result<Tube, AllocError>
+    requires { stream < length (streams_of plan.now.parts) }
+{
+    let mut board = Board::open(alloc, plan)?;
+    board.settle(alloc)?;
+    board.last(stream).copied(alloc)
 }
