@@ -1,14 +1,35 @@
 ghost use Rattle.std.specs.Prelude.{◌≡◌, None};
 ghost use Rattle.std.specs.Io.{ReadsAtMost};
 
-use crate::named_file::NamedFile;
-use crate::retries::read_some;
+use crate::stream_source::read_some;
 use flow_edge::{ReadFault, Source};
 use std::fs::File;
 use std::io;
 use std::rt::Files;
 
-impl<'a, R: Files> NamedFile<'a, R> {
+/// A file as a source. It is opened at the first read. It tells no bytes, and counts a fault for each read that fails, and for each at
+/// which it could not be opened.
+#[derive(Drop)]
+pub struct FileSource<'a, R: Files> {
+    files: &'a R,
+    name: &'a str,
+    file: Option<R::File>,
+    faults: u64,
+}
+
+impl<'a, R: Files> FileSource<'a, R> {
+    /// The source over the file with this name, with no fault counted yet.
+    pub fn new(files: &'a R, name: &'a str) -> Self
+        ensures { result.faults ≡ 0 }
+    {
+        FileSource {
+            files,
+            name,
+            file: None,
+            faults: 0,
+        }
+    }
+
     /// Opens the file where it is not open yet, and reads from it.
     fn take(&mut self, into: &mut [u8]) -> io::Result<usize>
         ensures read { ReadsAtMost result into.new }
@@ -24,7 +45,7 @@ impl<'a, R: Files> NamedFile<'a, R> {
     }
 }
 
-impl<'a, R: Files> Source for NamedFile<'a, R> {
+impl<'a, R: Files> Source for FileSource<'a, R> {
     ghost left = { λ _. None };
 
     ghost faults = { λ s. s.faults };

@@ -3,22 +3,21 @@
 
 mod file_sink;
 mod file_source;
-mod named_file;
-mod retries;
 mod stream_sink;
 mod stream_source;
-mod system_stream;
 mod words;
 
+use file_sink::FileSink;
+use file_source::FileSource;
 use flow_edge::{NoSource, NullSink, OpenGate, Sink, Source, Status, Word};
 use flow_top::{files, flow_top, memory_line};
-use named_file::NamedFile;
 use std::alloc::Global;
 use std::process::ExitCode;
 use std::rt::Files;
 use std::str;
 use std::thread::Threads;
-use system_stream::{ErrSink, InSource, OutSink};
+use stream_sink::{ErrSink, OutSink};
+use stream_source::InSource;
 use words::words;
 
 /// The standard streams.
@@ -51,7 +50,7 @@ fn with_files<R: Threads + Sync + Files>(
     streams: &mut Streams,
 ) -> Status {
     match named(words, files(words).extra) {
-        Some(name) => with_trace(rt, alloc, words, &mut NamedFile::new(rt, name), streams),
+        Some(name) => with_trace(rt, alloc, words, &mut FileSource::new(rt, name), streams),
         None => with_trace(rt, alloc, words, &mut NoSource, streams),
     }
 }
@@ -70,7 +69,7 @@ fn with_trace<R: Threads + Sync + Files, E: Source>(
             alloc,
             words,
             extra,
-            &mut NamedFile::new(rt, name),
+            &mut FileSink::new(rt, name),
             streams,
         ),
         None => with_streams(rt, alloc, words, extra, &mut NullSink, streams),

@@ -1,11 +1,34 @@
-ghost use Rattle.std.specs.Prelude.{None};
+ghost use Rattle.std.specs.Prelude.{◌≡◌, None};
+ghost use Rattle.std.specs.Io.{WritesAtMost};
 
-use crate::retries::write_some;
-use crate::system_stream::SystemStream;
+use crate::stream_source::MOST_RETRIES;
 use flow_edge::{Sink, WriteFault};
-use std::io::Write;
+use std::io;
+use std::io::{ErrorKind, Stderr, Stdout, Write};
 
-impl<W: Write> Sink for SystemStream<W> {
+/// A stream of the system as a sink. It tells no bytes, and counts a fault for each piece that it does not take whole.
+#[derive(Drop)]
+pub struct StreamSink<W> {
+    stream: W,
+    faults: u64,
+}
+
+/// Standard output.
+pub type OutSink = StreamSink<Stdout>;
+
+/// Standard error.
+pub type ErrSink = StreamSink<Stderr>;
+
+impl<W: Write> StreamSink<W> {
+    /// The sink over this stream, with no fault counted yet.
+    pub fn new(stream: W) -> Self
+        ensures { result.faults ≡ 0 }
+    {
+        StreamSink { stream, faults: 0 }
+    }
+}
+
+impl<W: Write> Sink for StreamSink<W> {
     ghost given = { λ _. None };
 
     ghost faults = { λ s. s.faults };
@@ -31,4 +54,17 @@ pub fn write_whole<W: Write>(stream: &mut W, piece: &[u8]) -> Result<(), WriteFa
         }
     }
     Ok(())
+}
+
+/// Writes once, and again where a signal came in between.
+fn write_some<W: Write>(stream: &mut W, piece: &[u8]) -> io::Result<usize>
+    ensures { WritesAtMost result piece.now }
+{
+    for _ in 0..MOST_RETRIES {
+        match stream.write(piece) {
+            Err(error) if error.kind() == ErrorKind::Interrupted => {}
+            answer => return answer,
+        }
+    }
+    Err(io::Error::from(ErrorKind::Interrupted))
 }

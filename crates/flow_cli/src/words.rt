@@ -44,7 +44,7 @@ fn word_at<R: Env>(
 
 fn word_of(alloc: Global, bytes: &[u8]) -> Result<Word, AllocError> {
     match str::from_utf8(bytes) {
-        Ok(text) => Word::copied(alloc, text.as_bytes()),
+        Ok(text) => Ok(Word::new(Vec::from_slice(alloc, text.as_bytes())?)),
         Err(_) => Ok(Word::new(Vec::new(alloc))),
     }
 }
