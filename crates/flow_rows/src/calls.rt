@@ -12,6 +12,7 @@ use std::test::Fail;
 use std::thread::Threads;
 use texts::{FIRST_TICKS, NOTHING, OUTPUT, RANKS, WRITE_FAULT};
 
+mod demo;
 mod devices;
 mod kinds;
 mod refusals;
@@ -163,6 +164,11 @@ fn refuses_texts_as_it_should(rt: HostRuntime) -> Result<(), Fail> {
 #[test]
 fn ends_each_call_as_it_should(rt: HostRuntime) -> Result<(), Fail> {
     try_cases(&rt, rt.alloc(), &devices::CASES)
+}
+
+#[test]
+fn sums_up_plants_as_it_should(rt: HostRuntime) -> Result<(), Fail> {
+    try_cases(&rt, rt.alloc(), &demo::CASES)
 }
 
 #[test]
