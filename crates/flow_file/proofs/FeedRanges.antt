@@ -6,10 +6,10 @@ use Rattle.parts.specs.InRange.{AreFeeds}
 use Rattle.toml.specs.Data.{as_array}
 use Rattle.flow_file.specs.declared.fault.TextFault.TheVariants as fault
 use Rattle.flow_file.specs.Read.{Reading}
-use Rattle.flow_file.specs.Value.{or_fault, is_in, triple_of, Section, table_of, at_key, list_of}
+use Rattle.flow_file.specs.Value.{or_fault, is_in, triple_of, Section, table_of, at_key, no_others, list_of}
 use Rattle.flow_file.specs.Feeds.{piece_of, pieces_of, constant_of, feed_band_of, begins_with_array}
 use Rattle.flow_file.specs.Feeds.{material_of, signal_of, is_signal_of, feed_of}
-use Rattle.flow_file.proofs.Yields.{Yields, Reads, given, anything, after, behind, tested, table, required}
+use Rattle.flow_file.proofs.Yields.{Yields, Reads, given, anything, after, tested, table, required}
 use Rattle.flow_file.proofs.ValueRanges.{holds, is_between, between, band, name}
 use Rattle.flow_file.proofs.ListRanges.{list}
 use Rattle.flow_file.proofs.KeyRanges.{channels}
@@ -49,13 +49,15 @@ material : (section : Section) → Yields IsFeedKind (material_of section)
 unfolding material_of
 material section =
     after (channels (required feed_band) section) (λ bands bands_are.
-    behind bands_are)
+    after (anything (no_others _ section)) (λ _ _.
+    given bands_are))
 
 signal : (section : Section) → Yields IsFeedKind (signal_of section)
 unfolding signal_of
 signal section =
     after (required feed_band section _) (λ value value_is.
-    behind value_is)
+    after (anything (no_others _ section)) (λ _ _.
+    given value_is))
 
 feed : (section : Section) → Yields IsFeedPart (feed_of section)
 unfolding feed_of

@@ -2,9 +2,9 @@
 use Rattle.parts.specs.InRange.{AllMeet}
 use Rattle.toml.specs.Data.{Data}
 use Rattle.flow_file.specs.Read.{Reading}
-use Rattle.flow_file.specs.Value.{Bytes, Section}
+use Rattle.flow_file.specs.Value.{Bytes, Section, no_others}
 use Rattle.flow_file.specs.Value.{both_at, channels_of, quantities_of}
-use Rattle.flow_file.proofs.Yields.{Yields, Reads, given, after, behind, required}
+use Rattle.flow_file.proofs.Yields.{Yields, Reads, given, anything, after, required}
 
 pub both : {A : Type 0} {P : A → Type 0} {read : Bytes → Data → Reading A} → Reads P read →
     (section : Section) (first second : Bytes) →
@@ -35,4 +35,5 @@ quantities each section =
     after (channels each section) (λ stream are.
     after (each section _) (λ volume volume_is.
     after (each section _) (λ signal signal_is.
-    behind (record { flow = are.0; conc = are.1; temp = are.2; volume = volume_is; signal = signal_is }))))
+    after (anything (no_others _ section)) (λ _ _.
+    given (record { flow = are.0; conc = are.1; temp = are.2; volume = volume_is; signal = signal_is })))))

@@ -7,11 +7,11 @@ use Rattle.parts.specs.InRange.{most_ticks, longest_window, most_units, widths, 
 use Rattle.parts.specs.InRange.{IsBetween, IsUnitPart, AreFeeds, AreInRange}
 use Rattle.flow_file.specs.declared.plant.Frame.{Frame}
 use Rattle.flow_file.specs.declared.units.UnitKind.{UnitKind}
-use Rattle.flow_file.specs.Value.{Section, at_key, tree_of}
+use Rattle.flow_file.specs.Value.{Section, at_key, no_others, tree_of}
 use Rattle.flow_file.specs.Units.{unit_kind_of, own_limits_of, no_limits, last_limits_of, unit_of}
 use Rattle.flow_file.specs.Plant.{format_of, run_of, limits_of, width_in, widths_of, no_widths}
 use Rattle.flow_file.specs.Plant.{widths_at, feeds_at, frame_of, parts_at, parts_of, parts_in}
-use Rattle.flow_file.proofs.Yields.{Yields, Reads, given, anything, after, behind, table, required, optional, or_else}
+use Rattle.flow_file.proofs.Yields.{Yields, Reads, given, anything, after, table, required, optional, or_else}
 use Rattle.flow_file.proofs.ValueRanges.{number, count, band, name}
 use Rattle.flow_file.proofs.ListRanges.{list}
 use Rattle.flow_file.proofs.KeyRanges.{channels, quantities}
@@ -29,7 +29,8 @@ last_limits : (kind : UnitKind) (section : Section) → Yields AreOwnLimits (las
 unfolding last_limits_of
 last_limits kind section =
     after (optional (table own_limits) section _) (λ limits limits_are.
-    behind (or_else AreOwnLimits limits no_limits limits_are no_limits_are))
+    after (anything (no_others _ section)) (λ _ _.
+    given (or_else AreOwnLimits limits no_limits limits_are no_limits_are)))
 
 unit : (section : Section) → Yields IsUnitPart (unit_of section)
 unfolding unit_of
@@ -47,7 +48,8 @@ unfolding run_of
 run section =
     after (required (count 1 most_ticks) section _) (λ ticks ticks_are.
     after (required (count 1 longest_window) section _) (λ window window_is.
-    behind (ticks_are, window_is)))
+    after (anything (no_others _ section)) (λ _ _.
+    given (ticks_are, window_is))))
 
 limits : (top : Section) → Yields AreWideLimits (limits_of top)
 unfolding limits_of
@@ -63,7 +65,8 @@ unfolding widths_of
 asked_widths section =
     after (channels (optional width) section) (λ stream are.
     after (optional width section _) (λ signal signal_is.
-    behind (record { flow = are.0; conc = are.1; temp = are.2; signal = signal_is })))
+    after (anything (no_others _ section)) (λ _ _.
+    given (record { flow = are.0; conc = are.1; temp = are.2; signal = signal_is }))))
 
 no_widths_are : AreWidths no_widths
 no_widths_are = record { flow = tt; conc = tt; temp = tt; signal = tt }
@@ -102,14 +105,15 @@ parts top =
     after (frame top) (λ frame frame_is.
     after (all_feeds top) (λ feeds feeds_are.
     after (required (list (table unit) 1 most_units) top _) (λ units units_are.
-    behind (record {
+    after (anything (no_others _ top)) (λ _ _.
+    given (record {
       ticks = frame_is.ticks;
       window = frame_is.window;
       limits = frame_is.limits;
       width = frame_is.width;
       feeds = feeds_are;
       units = units_are;
-    }))))
+    })))))
 
 pub in_range : (bytes : List ℕ) (parts : FileParts) → parts_in bytes ≡ Ok parts → AreInRange parts
 unfolding parts_in parts_of

@@ -33,11 +33,6 @@ pub after : {A B : Type 0} {P : A → Type 0} {Q : B → Type 0} {reading : Read
 after {reading = Ok x} first rest = rest x (first.value x refl)
 after {reading = Err refusal} first rest = refused
 
--- a value that is given behind a reading of which nothing has to be known
-pub behind : {A B : Type 0} {P : B → Type 0} {others : Reading A} {x : B} → P x → Yields P (others >>= (λ _. Ok x))
-behind {others = Ok y} here = given here
-behind {others = Err refusal} here = refused
-
 -- a value that is given where it passes a test
 pub tested : {A : Type 0} {P : A → Type 0} (test : Bool) (x : A) (refusal : TextFault) →
     (test ≡ true → P x) → Yields P (when test x refusal)
