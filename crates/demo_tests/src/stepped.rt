@@ -7,6 +7,7 @@ use feeds::FeedReader;
 use flow_edge::NoSource;
 use plant::Plant;
 use plant_gen::plant_of;
+use relax_core::Window;
 use std::alloc::Global;
 use std::test::Fail;
 use std::thread::Threads;
@@ -29,6 +30,15 @@ fn with_tube(sums: Sums, tube: &Tube) -> Sums {
     (width, ends)
 }
 
+/// The sums with those of the bands of a window.
+fn with_window(sums: Sums, window: &Window) -> Sums {
+    let mut sums = sums;
+    for tube in &window.tubes {
+        sums = with_tube(sums, tube);
+    }
+    sums
+}
+
 /// The sums over all bands of the windows that a plant is stepped through.
 fn stepped_sums<R: Threads + Sync>(
     rt: &R,
@@ -43,9 +53,7 @@ fn stepped_sums<R: Threads + Sync>(
         let Ok(window) = stepper.next_window(rt, alloc, &mut feeds, &mut NoSource) else {
             return Err("no window".into());
         };
-        for tube in &window.tubes {
-            sums = with_tube(sums, tube);
-        }
+        sums = with_window(sums, &window);
     }
     Ok(sums)
 }

@@ -50,7 +50,7 @@ const LEVEL: Case = Case {
 };
 
 /// Versions in their turn.
-static CASES: [Case; 9] = [
+const CASES: [Case; 9] = [
     OUTFLOW,
     Case {
         name: "the outflow again",
