@@ -12,10 +12,10 @@ use std::test::Fail;
 use std::thread::Threads;
 use texts::{FIRST_TICKS, NOTHING, OUTPUT, RANKS, WRITE_FAULT};
 
-mod demo;
 mod devices;
 mod kinds;
 mod refusals;
+mod summaries;
 mod texts;
 mod windows;
 
@@ -168,7 +168,7 @@ fn ends_each_call_as_it_should(rt: HostRuntime) -> Result<(), Fail> {
 
 #[test]
 fn sums_up_plants_as_it_should(rt: HostRuntime) -> Result<(), Fail> {
-    try_cases(&rt, rt.alloc(), &demo::CASES)
+    try_cases(&rt, rt.alloc(), &summaries::CASES)
 }
 
 #[test]
