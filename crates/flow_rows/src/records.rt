@@ -134,7 +134,7 @@ static CASES: [Case; 24] = [
         name: "a record that is too great behind the last tick",
         records: Text("tick,place,lo,hi\n3,f.flow,20,1000001\n"),
         err: "flowrelax: F4 outside at record 2\n",
-        ..REFUSED_LATER
+        ..REFUSED
     },
     Case {
         name: "ticks that fall in the first window",
