@@ -1,3 +1,4 @@
+mod Digits
 mod KeptRows
 mod RowText
 mod Spacing

@@ -1,13 +1,15 @@
 //! The numbers at the end of a row.
 
-ghost use Rattle.std.specs.Prelude.{◌≡◌, ◌≤◌, ◌∷◌, ◌++◌, [], length, take, OnOk, OnErr};
-ghost use Rattle.csv.specs.Writing.{writer_under};
+ghost use Rattle.std.specs.Prelude.{◌≡◌, ◌≤◌, ◌∷◌, ◌++◌, [], false, length, take, OnOk, OnErr};
+ghost use Rattle.std.specs.Fmt.{signed_decimal};
+ghost use Rattle.csv.specs.Writing.{writer_under, needs_quotes};
+ghost use Rattle.csv.specs.declared.writer.QuoteStyle.TheVariants.{Necessary};
 ghost use Rattle.tables.specs.Kept.{numbers_of};
 ghost use Rattle.tables.specs.Line.{line};
-ghost use Rattle.tables.specs.Writer.{IsBetweenRows, IsFlushed, text_so_far};
+ghost use Rattle.tables.specs.Writer.{IsBetweenRows, IsFlushed, table_writer, text_so_far};
 
-use crate::row_writer::{begin_anew, row_writer, write_row};
-use csv::{Error, Writer};
+use crate::row_writer::{begin_anew, row_writer};
+use csv::{Error, QuoteStyle, Writer};
 use itoa::Buffer;
 use quant::Band;
 use std::alloc::{AllocError, Global};
@@ -16,7 +18,8 @@ use std::marker::Model;
 /// How many bytes of numbers are written before their memory is given back.
 const MOST_BYTES: usize = 65536;
 
-/// What writes the numbers of rows, each pair as a row of two fields.
+/// What writes the numbers of rows, each pair as a row of two fields. No number needs quotes, and fields that need none are
+/// written faster where quotes are looked for.
 #[derive(Drop)]
 pub(crate) struct NumberWriter {
     alloc: Global,
@@ -24,20 +27,21 @@ pub(crate) struct NumberWriter {
 }
 
 impl Model for NumberWriter {
+    ghost use Rattle.csv.specs.declared.writer.QuoteStyle.TheVariants.{Necessary};
     ghost use Rattle.tables.specs.Writer.{IsFlushed};
 
     ghost Value = { Unit {0} };
 
     ghost view = { λ _. tt };
 
-    ghost invariant = { λ w. IsFlushed w.writer };
+    ghost invariant = { λ w. IsFlushed Necessary w.writer };
 }
 
 impl NumberWriter {
     pub fn new(alloc: Global) -> Self {
         NumberWriter {
             alloc,
-            writer: row_writer(alloc),
+            writer: row_writer(alloc, QuoteStyle::Necessary),
         }
     }
 
@@ -51,7 +55,7 @@ impl NumberWriter {
         give_back(&mut self.writer, self.alloc);
         let start = self.writer.get_ref().len();
         if write_numbers(&mut self.writer, band).is_err() {
-            begin_anew(&mut self.writer, self.alloc);
+            begin_anew(&mut self.writer, self.alloc, QuoteStyle::Necessary);
             return Err(AllocError);
         }
         replace_end(text, head, &self.writer.get_ref().as_slice()[start..])
@@ -60,40 +64,49 @@ impl NumberWriter {
 
 /// Makes the writer anew where it holds much.
 fn give_back(writer: &mut Writer<Vec<u8>>, alloc: Global)
-    requires { IsFlushed writer.old }
-    ensures { IsFlushed writer.new }
+    requires { IsFlushed Necessary writer.old }
+    ensures { IsFlushed Necessary writer.new }
 {
     if writer.get_ref().len() > MOST_BYTES {
-        begin_anew(writer, alloc);
+        begin_anew(writer, alloc, QuoteStyle::Necessary);
     }
 }
 
 fn write_numbers(writer: &mut Writer<Vec<u8>>, band: Band) -> Result<(), Error>
-    requires { IsFlushed writer.old }
+    requires { IsFlushed Necessary writer.old }
     ensures numbers { OnOk result ((writer_under writer.new).items
         ≡ (writer_under writer.old).items ++ numbers_of band) }
-    ensures flushed { OnOk result (IsFlushed writer.new) }
+    ensures flushed { OnOk result (IsFlushed Necessary writer.new) }
 {
     let mut lo = Buffer::new();
     let mut hi = Buffer::new();
-    write_pair(
-        writer,
-        lo.format(band.lo).as_bytes(),
-        hi.format(band.hi).as_bytes(),
-    )?;
+    write_pair(writer, text_of(&mut lo, band.lo), text_of(&mut hi, band.hi))?;
     writer.flush()
 }
 
+/// The text of a number, which needs no quotes.
+#[tactic(auto, using(crate::proofs::Digits::number_plain))]
+fn text_of(buffer: &mut Buffer, number: i64) -> &[u8]
+    ensures text { result.now ≡ signed_decimal number }
+    ensures plain { needs_quotes (table_writer Necessary) result.now ≡ false }
+{
+    buffer.format(number).as_bytes()
+}
+
+/// Writes a row of two fields, of which none needs quotes.
+#[inline(never)]
 fn write_pair<'a>(
     writer: &mut Writer<Vec<u8>>,
     first: &'a [u8],
     second: &'a [u8],
 ) -> Result<(), Error>
-    requires ready { IsBetweenRows writer.old }
+    requires ready { IsBetweenRows Necessary writer.old }
+    requires first { needs_quotes (table_writer Necessary) first.now ≡ false }
+    requires second { needs_quotes (table_writer Necessary) second.now ≡ false }
     ensures row { OnOk result (text_so_far writer.new ≡ text_so_far writer.old ++ line (first.now ∷ second.now ∷ [])) }
-    ensures ready { OnOk result (IsBetweenRows writer.new) }
+    ensures ready { OnOk result (IsBetweenRows Necessary writer.new) }
 {
-    write_row(writer, &[first, second])
+    writer.write_fields(&[first, second])
 }
 
 /// Puts an end in the place of what a text has behind its head.

@@ -4,6 +4,7 @@ ghost use Rattle.tables.specs.Steps.{trace_header};
 
 use crate::row_writer::{begin_anew, row_writer, write_row};
 use crate::spaced::spaced_text;
+use csv::QuoteStyle;
 use itoa::Buffer;
 use std::alloc::{AllocError, Global};
 use std::marker::Model;
@@ -49,13 +50,14 @@ pub struct Rows {
 
 impl Model for Rows {
     ghost use Rattle.std.specs.Prelude.{ℕ, List};
+    ghost use Rattle.csv.specs.declared.writer.QuoteStyle.TheVariants.{Never};
     ghost use Rattle.tables.specs.Writer.{IsBetweenRows, text_so_far};
 
     ghost Value = { List ℕ };
 
     ghost view = { λ r. text_so_far r.writer };
 
-    ghost invariant = { λ r. IsBetweenRows r.writer };
+    ghost invariant = { λ r. IsBetweenRows Never r.writer };
 }
 
 impl Rows {
@@ -69,7 +71,7 @@ impl Rows {
     {
         Rows {
             alloc,
-            writer: row_writer(alloc),
+            writer: row_writer(alloc, QuoteStyle::Never),
         }
     }
 
@@ -85,7 +87,7 @@ impl Rows {
         match write_row(&mut self.writer, fields) {
             Ok(()) => Ok(()),
             Err(_) => {
-                begin_anew(&mut self.writer, self.alloc);
+                begin_anew(&mut self.writer, self.alloc, QuoteStyle::Never);
                 Err(AllocError)
             }
         }
