@@ -1,5 +1,6 @@
 pub mod Boards
 pub mod Carried
+pub mod Changes
 pub mod Counts
 pub mod Kept
 pub mod Lasts
@@ -9,6 +10,7 @@ pub mod Orders
 pub mod Readings
 pub mod Remembered
 pub mod Renewals
+pub mod Replaced
 pub mod Rooms
 pub mod Settled
 pub mod Steps

@@ -9,3 +9,4 @@ pub mod Settling
 pub mod Stepping
 pub mod Turns
 pub mod UnitStates
+pub mod Versions

@@ -212,7 +212,7 @@ impl<'p> Board<'p> {
     /// version where that is narrower. Where it was last renewed from the same numbers nothing is left to do.
     pub fn step(
         &mut self,
-        alloc: Global,
+        _alloc: Global,
         stream: u32,
         versions: &[u32],
     ) -> Result<Stepped, StepFault>
@@ -231,7 +231,6 @@ impl<'p> Board<'p> {
         let room = &mut self.rooms[unit as usize];
         room.renew(self.plan, unit, &self.lines, versions);
         let stepped = append(
-            alloc,
             &mut self.lines,
             &mut self.rows,
             stream,

@@ -7,6 +7,7 @@ mod carrying;
 mod chaos;
 mod givers;
 mod laws;
+mod line;
 mod lines;
 mod made;
 mod making;

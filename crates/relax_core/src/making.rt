@@ -70,7 +70,6 @@ pub(crate) fn met(alloc: Global, tube: &Tube, other: &Tube) -> Result<Tube, Allo
 
 /// Appends the meet of a stream's last version with its renewal, and the row of the step, where that is narrower.
 pub(crate) fn append(
-    alloc: Global,
     lines: &mut Lines,
     rows: &mut Vec<StepRow>,
     stream: u32,
@@ -92,9 +91,8 @@ pub(crate) fn append(
     if number == u32::MAX {
         return Err(StepFault::NoMemory);
     }
-    let tube = met(alloc, lines.last(stream), renewal)?;
     rows.reserve(1)?;
-    lines.append(stream, tube)?;
+    lines.meet(stream, renewal)?;
     rows.push_reserved(StepRow {
         stream,
         version: number,

@@ -1,6 +1,7 @@
 //! The room that the steps of a unit's streams are made in.
 
 use crate::givers::reads;
+use crate::line::same_ticks;
 use crate::lines::Lines;
 use crate::refs::{Refs, remembers};
 use renewal::{Inputs, Outputs, WindowPlan, renew, renew_from};
@@ -20,7 +21,7 @@ impl Room {
     ghost use Rattle.std.specs.Prelude.{◌≡◌, ◌<◌, ◌≤◌, [], length, slice_index_or, slice_set};
     ghost use Rattle.std.specs.Prelude.{Some, IfOk, IfSome};
     ghost use Rattle.tubes.specs.Shape.{HasShapeOf};
-    ghost use Rattle.relaxation.specs.Core.{named, AreThere};
+    ghost use Rattle.relaxation.specs.Core.{named, version_at, versions_of, AreThere};
     ghost use Rattle.plant_units.specs.Units.{units_of};
     ghost use Rattle.renewal.specs.Room.{planned, renewal_of, AreOpened, AreSameBelow, HasRoomFor, HoldsRenewal};
     ghost use Rattle.relax_core.specs.Rooms.{IsRoomFor, IsNewRoom, IsRenewedFrom, reads_in, AreSameTicks};
@@ -46,12 +47,27 @@ impl Room {
         ensures read { self.new ≡ reads_in self.old (slice_set self.old.inputs port tube.now) }
         ensures same { AreSameTicks result (slice_index_or self.old.inputs port []) tube.now }
     {
-        let same = match self.inputs.as_slice()[port as usize].first_difference(tube) {
-            Some((tick, _)) => tick,
-            None => tube.ticks(),
-        };
+        let same = same_ticks(&self.inputs.as_slice()[port as usize], tube);
         self.inputs.read(port, tube);
         same
+    }
+
+    /// Reads the version of a stream with a number for an input port, and tells at how many first ticks it is known to
+    /// have the bands that were read before.
+    fn read_version(&mut self, port: u32, lines: &Lines, stream: u32, number: u32) -> u32
+        requires port { port < length self.old.inputs }
+        requires stream { stream < length lines.now }
+        requires number { number < length (versions_of lines.now stream) }
+        requires shape { HasShapeOf (slice_index_or self.old.inputs port []) (version_at lines.now stream number) }
+        ensures read { self.new ≡ reads_in self.old
+            (slice_set self.old.inputs port (version_at lines.now stream number)) }
+        ensures same { AreSameTicks result (slice_index_or self.old.inputs port []) (version_at lines.now stream number) }
+    {
+        if number as usize + 1 == lines.count(stream) {
+            return self.read(port, lines.last(stream));
+        }
+        lines.read(stream, number, self.inputs.port(port));
+        0
     }
 
     /// Reads the versions with these numbers of what the unit reads, and tells at how many first ticks they have the
@@ -74,8 +90,7 @@ impl Room {
     {
         let mut same = plan.ticks();
         for (port, stream) in reads(plan, unit).iter().enumerate() {
-            let version = lines.version(*stream, versions[port]);
-            same = same.min(self.read(port as u32, version));
+            same = same.min(self.read_version(port as u32, lines, *stream, versions[port]));
         }
         same
     }

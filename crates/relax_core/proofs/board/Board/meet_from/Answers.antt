@@ -7,7 +7,7 @@ use Rattle.renewal.specs.Plan.{window_of}
 use Rattle.renewal.specs.Room.{planned}
 use Rattle.relax_core.specs.Board.{BoardOf}
 use Rattle.relax_core.specs.Making.{MeetsFrom}
-use Rattle.relax_core.proofs.Boards.{board_of, streams-there, all-within, line-there, version-there}
+use Rattle.relax_core.proofs.Boards.{board_of, streams-there, all-within, line-there}
 use Rattle.relax_core.proofs.Renewals.{ports-counted}
 use Rattle.relax_core.proofs.Kept.{kept-renewed}
 use Rattle.relax_core.proofs.Steps.{step-legal, step-shape, step-meets, step-meet, step-opened}
@@ -21,11 +21,8 @@ pub renew-requires-clause-within : goal.renew-requires-clause-within
 renew-requires-clause-within c =
     all-within (board_of c.self.inside.plan.now c.self.inside.lines c.self.inside.rows.items) c.self.invariant.steps
 
-pub last-requires-clause-stream : goal.last-requires-clause-stream
-last-requires-clause-stream c = line-there _ c.self.invariant.steps _ c.self.view_is c.args.stream c.requires.stream
-
-pub last-requires-clause-some : goal.last-requires-clause-some
-last-requires-clause-some c = version-there _ c.self.invariant.steps _ c.self.view_is c.args.stream c.requires.stream
+pub last-requires : goal.last-requires
+last-requires c = line-there _ c.self.invariant.steps _ c.self.view_is c.args.stream c.requires.stream
 
 pub port-requires : goal.port-requires
 port-requires c =

@@ -2,7 +2,7 @@
 -- below the first tick at which one differs.
 use Rattle.std.proofs.Common.{◌≡◌, ◌∙◌, ℕ, ◌+◌, ◌<◌, ◌≤◌, List, length, slice_index, refl, sym, ap, subst, arith}
 use Rattle.std.specs.Prelude.{slice_set}
-use Rattle.relaxation.specs.Core.{versions_of}
+use Rattle.relaxation.specs.Core.{versions_of, version_at}
 use Rattle.renewal.specs.Room.{planned}
 use Rattle.relax_core.specs.Rooms.{reads_in}
 use Rattle.relax_core.specs.declared.room.Room.{Room}
@@ -24,8 +24,8 @@ bounds-versions-port c =
       ap length c.reads-stream-items.ensures.reads,
     )
 
-pub version-version-requires-clause-number : goal.version-version-requires-clause-number
-version-version-requires-clause-number c =
+pub read_version-requires-clause-number : goal.read_version-requires-clause-number
+read_version-requires-clause-number c =
     let reads = (planned c.args.plan.now c.args.unit).reads in
     let n = c.loop-port.port in
     let below : n < length reads = one-read c.reads-stream-items.ensures.reads c.loop-port-test.true in
@@ -33,8 +33,8 @@ version-version-requires-clause-number c =
     subst (λ (streams : List ℕ). slice_index versions n < length (versions_of c.args.lines.now (slice_index streams n)))
     (sym c.reads-stream-items.ensures.reads) (there-at c.args.lines.now reads versions n c.requires.there below)
 
-pub version-version-requires-clause-stream : goal.version-version-requires-clause-stream
-version-version-requires-clause-stream c =
+pub read_version-requires-clause-stream : goal.read_version-requires-clause-stream
+read_version-requires-clause-stream c =
     let reads = (planned c.args.plan.now c.args.unit).reads in
     let n = c.loop-port.port in
     let below : n < length reads = one-read c.reads-stream-items.ensures.reads c.loop-port-test.true in
@@ -42,8 +42,8 @@ version-version-requires-clause-stream c =
     (sym c.reads-stream-items.ensures.reads)
     (stream-there c.args.lines.now _ _ (there-at c.args.lines.now reads c.args.versions.now n c.requires.there below))
 
-pub read-requires-clause-port : goal.read-requires-clause-port
-read-requires-clause-port c =
+pub read_version-requires-clause-port : goal.read_version-requires-clause-port
+read_version-requires-clause-port c =
     let plan = c.args.plan.now in
     omega (
       arith,
@@ -52,11 +52,11 @@ read-requires-clause-port c =
       ap length c.reads-stream-items.ensures.reads,
     )
 
-pub read-requires-clause-shape : goal.read-requires-clause-shape
-read-requires-clause-shape c =
+pub read_version-requires-clause-shape : goal.read_version-requires-clause-shape
+read_version-requires-clause-shape c =
     reading-shape c.args.plan.now c.args.lines.now c.requires.within (planned c.args.plan.now c.args.unit).reads
     c.args.versions.now c.requires.there c.loop-port.port c.loop-port.self.inputs c.reads-stream-items.result.now
-    c.version-version.result.now c.reads-stream-items.ensures.reads c.loop-port-test.true c.version-version.ensures
+    _ c.reads-stream-items.ensures.reads c.loop-port-test.true refl
     c.loop-port.invariant.0
 
 pub loop-port-init : goal.loop-port-init
@@ -76,7 +76,7 @@ loop-port-preserved c =
     let versions = c.args.versions.now in
     let n = c.loop-port.port in
     let inputs = c.loop-port.self.inputs in
-    let tube = c.version-version.result.now in
+    let tube = version_at lines (slice_index c.reads-stream-items.result.now n) (slice_index versions n) in
     let same = c.min-same.result in
     let there : n < length inputs = omega (
       arith,
@@ -87,13 +87,13 @@ loop-port-preserved c =
     subst (λ (room : Room). IsReading plan lines reads versions (n + 1) room.inputs
     × AreSamePorts same c.args.self.now.inputs room.inputs
     × (room ≡ reads_in c.args.self.now room.inputs) × (same ≤ plan.ticks))
-    (sym c.read.ensures.read) (
+    (sym c.read_version.ensures.read) (
       reading-more plan lines c.requires.within reads versions c.requires.there n inputs
           c.reads-stream-items.result.now tube c.reads-stream-items.ensures.reads c.loop-port-test.true
-          c.version-version.ensures c.loop-port.invariant.0,
-      same-read c.loop-port.same c.read.result same c.args.self.now.inputs inputs n tube
+          refl c.loop-port.invariant.0,
+      same-read c.loop-port.same c.read_version.result same c.args.self.now.inputs inputs n tube
           (omega (arith, c.min-same.ensures)) (omega (arith, c.min-same.ensures)) there c.loop-port.invariant.1
-          c.read.ensures.same,
+          c.read_version.ensures.same,
       ap (λ (room : Room). reads_in room (slice_set inputs n tube)) c.loop-port.invariant.2,
       omega (arith, c.min-same.ensures, c.loop-port.invariant.3),
     )
