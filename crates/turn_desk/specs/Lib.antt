@@ -1,0 +1,4 @@
+pub mod Dealing
+pub mod Passes
+pub mod Steps
+pub mod Turns

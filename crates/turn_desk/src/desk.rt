@@ -1,0 +1,37 @@
+//! What gives units to workers.
+
+ghost use Rattle.std.specs.Prelude.{◌≡◌, ◌*◌, ◌<◌, ◌≤◌, ℕ, IfSome, None};
+
+/// Gives workers the units that they renew, one after another.
+pub trait Desk {
+    /// What a worker draws with.
+    type Seat;
+
+    /// How many units there are.
+    ghost units: { Self → ℕ };
+
+    /// It is a seat of this desk.
+    ghost is_seat: { Self → Self.Seat → Type 0 };
+
+    /// The seat is given none from now on, for the desk's own reason.
+    ghost ended: { Self → Self.Seat → Type 0 };
+
+    /// How many units the seat is given at most from now on.
+    ghost left: { Self → Self.Seat → ℕ };
+
+    /// The next unit, or none from now on.
+    fn next(&self, seat: &mut Self::Seat) -> Option<u32>
+        requires { is_seat self.now seat.old }
+        ensures seat { is_seat self.now seat.new }
+        ensures bound { left self.now seat.old ≤ 32 * units self.now }
+        ensures unit { IfSome result (λ unit. (unit < units self.now) × (left self.now seat.new < left self.now seat.old)) }
+        ensures none { result ≡ None → ended self.now seat.new };
+
+    /// Says that this unit may be worth a renewal.
+    fn tell(&self, seat: &mut Self::Seat, unit: u32)
+        requires seat { is_seat self.now seat.old }
+        requires unit { unit < units self.now }
+        ensures seat { is_seat self.now seat.new }
+        ensures left { left self.now seat.new ≡ left self.now seat.old }
+        ensures ended { ended self.now seat.old → ended self.now seat.new };
+}
