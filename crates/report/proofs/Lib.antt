@@ -1,5 +1,5 @@
 pub mod Joined
 pub mod Firsts
 pub mod Labels
-mod Ticks
+pub mod Ticks
 pub mod Traces

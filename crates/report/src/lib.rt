@@ -10,4 +10,4 @@ pub use fault::TopFault;
 pub use laws::{first_rows_read_opening_tubes, traces_settle_their_windows};
 pub use lines::{constant_line, fault_line, memory_line};
 pub use tables::{channel_names, output_header, rank_header, trace_header};
-pub use texts::{check_rows, trace_rows, tube_rows};
+pub use texts::{check_rows, stream_rows, trace_rows, tube_rows};

@@ -28,8 +28,8 @@ pub fn tube_rows(alloc: Global, plant: &Plant, window: &Window) -> Result<Text, 
     Ok(Text::new(rows.into_text()))
 }
 
-/// The streams of a plant, as they are printed.
-fn stream_rows(alloc: Global, plant: &Plant) -> Result<Vec<StreamRows<'_>>, AllocError>
+/// The streams of a plant, as they are printed. The one error is want of memory.
+pub fn stream_rows(alloc: Global, plant: &Plant) -> Result<Vec<StreamRows<'_>>, AllocError>
     ensures { IfOk result (λ rows. rows.items ≡ labels_of plant.now) }
 {
     let streams = plant.streams();

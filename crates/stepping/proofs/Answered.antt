@@ -1,9 +1,9 @@
 -- What a stepper answers is what is asked of a session.
 use Rattle.std.proofs.Common.{◌≡◌, ◌≢◌, ◌∙◌, ℕ, ◌+◌, ◌<◌, ◌≤◌, length, List, Result, Ok, Err, None}
-use Rattle.std.proofs.Common.{IfOk, IfErr, IsErrAnd, false, inl, inr, refl, sym, ap, subst, arith}
+use Rattle.std.proofs.Common.{IfOk, IfErr, false, inl, inr, refl, sym, ap, subst, arith}
 use Rattle.std.proofs.lemmas.List.{length-map}
-use Rattle.quant.specs.Interval.{Interval}
-use Rattle.relaxation.specs.Tube.{Tube}
+use Rattle.quant.specs.Interval.{Interval, AllInside}
+use Rattle.relaxation.specs.Tube.{Tube, at}
 use Rattle.parts.specs.Parts.{FileParts}
 use Rattle.plant.specs.Rows.{RowBands, IsRow, opening_row}
 use Rattle.plant.specs.Sound.{IsPlant}
@@ -17,14 +17,18 @@ use Rattle.feeds.specs.ReaderOf.{Feeding}
 use Rattle.feeds.specs.Reader.{Gives, AreFeedTubes}
 use Rattle.feeds.specs.declared.reader.FeedFault.{FeedFault}
 use Rattle.feeds.specs.declared.reader.FeedFault.TheVariants as feed
-use Rattle.relax_core.specs.Settled.{WindowOf}
+use Rattle.relaxation.specs.Window.{run_tube}
+use Rattle.plant_streams.specs.Streams.{streams_of}
+use Rattle.plant_streams.specs.Limits.{limits_at}
+use Rattle.renewal.specs.Plan.{window_of}
 use Rattle.window_accept.specs.declared.end.WindowEnd.{WindowEnd}
 use Rattle.window_accept.specs.declared.end.WindowEnd.TheVariants as end
 use Rattle.window_accept.specs.Session.{SessionOf, IsSession, IsGoingOn, Asks, next_plan, next_ticks}
 use Rattle.window_accept.specs.Session.{bands_of_plan, end_by, ended_by, NextWindow}
 use Rattle.window_accept.specs.Session as session
-use Rattle.stepping.specs.Stepping.{plan_from, IsStepper, IsAccepted, IsWideEnd, IsEndOf}
-use Rattle.stepping.specs.Stepping.{stepped_on}
+use Rattle.stepping.specs.NextRows.{NextRows}
+use Rattle.stepping.specs.Stepping.{plan_from, IsStepper, IsStepped, IsWideEnd, IsPlanEnd, stepped_on}
+use Rattle.stepping.proofs.Stepped.{run_window, has-run, run-rows}
 
 -- before the first window
 pub opening-stands : (parts : FileParts) (row : RowBands) → IsPlant parts → row ≡ opening_row parts → IsRow parts row →
@@ -126,7 +130,7 @@ module _ (now : SessionOf) (reader read : Feeding) (going : IsGoingOn now) where
   wide-by feeds (end.Feed fault) asks h = absurd h
 
   ended-by : (feeds : List Tube) (answered : WindowEnd) → Asks now reader read (Ok feeds) →
-      IsEndOf now feeds answered →
+      IsPlanEnd (next_plan now feeds) answered →
       NextWindow false now (ended_by now answered) reader read (Err answered)
   ended-by feeds answered asks h = elim h [
     | inl e ↦ subst (λ (w : WindowEnd). NextWindow false now (ended_by now w) reader read (Err w)) (sym e)
@@ -134,53 +138,46 @@ module _ (now : SessionOf) (reader read : Feeding) (going : IsGoingOn now) where
     | inr wide ↦ wide-by feeds answered asks wide
   ]
 
-  given-by : (feeds : List Tube) (window : WindowOf) (row : RowBands) → Asks now reader read (Ok feeds) →
-      IsAccepted now feeds window row → NextWindow false now (stepped_on now row) reader read (Ok window)
-  given-by feeds window row asks h = session.given feeds window going asks h.stepped.run h.stepped.none h.narrow
-      (ap (λ (carried : List (List Interval)).
-      record { parts = now.parts; tick = now.tick + next_ticks now; carried = carried; end = None }) h.stepped.states)
+  given-by : (feeds : List Tube) (text : List ℕ) (row : RowBands) → Asks now reader read (Ok feeds) →
+      ((plan : PlanOf) (t s : ℕ) → IsPlan plan → t < plan.ticks → s < length (streams_of plan.parts) →
+      AllInside (at (run_tube (window_of plan) s) t) (limits_at plan.parts s)) →
+      IsStepped (next_plan now feeds) text row → NextRows now (stepped_on now row) reader read (Ok text)
+  given-by feeds text row asks law h = (
+    run_window (next_plan now feeds),
+    session.given feeds (run_window (next_plan now feeds)) going asks (has-run (next_plan now feeds) law h.plan_is) refl h.narrow
+        (ap (λ (carried : List (List Interval)).
+        record { parts = now.parts; tick = now.tick + next_ticks now; carried = carried; end = None }) h.states),
+    h.rows ∙ run-rows (next_plan now feeds),
+  )
 
   -- where a window was stepped
-  pub all-given : {T E : Type 0} (window : T → WindowOf) (row : T → RowBands) (feeds : List Tube) (r : Result T E) →
-      Asks now reader read (Ok feeds) → IfOk r (λ made. IsAccepted now feeds (window made) (row made)) →
-      IfOk r (λ made. NextWindow false now (stepped_on now (row made)) reader read (Ok (window made)))
-  all-given window row feeds (Ok made) asks h = given-by feeds (window made) (row made) asks h
-  all-given window row feeds (Err e) asks h = tt
+  pub all-given : {T E : Type 0} (text : T → List ℕ) (row : T → RowBands) (feeds : List Tube) (r : Result T E) →
+      Asks now reader read (Ok feeds) →
+      ((plan : PlanOf) (t s : ℕ) → IsPlan plan → t < plan.ticks → s < length (streams_of plan.parts) →
+      AllInside (at (run_tube (window_of plan) s) t) (limits_at plan.parts s)) →
+      IfOk r (λ made. IsStepped (next_plan now feeds) (text made) (row made)) →
+      IfOk r (λ made. NextRows now (stepped_on now (row made)) reader read (Ok (text made)))
+  all-given text row feeds (Ok made) asks law h = given-by feeds (text made) (row made) asks law h
+  all-given text row feeds (Err e) asks law h = tt
 
   pub all-ended : {T : Type 0} (feeds : List Tube) (r : Result T WindowEnd) → Asks now reader read (Ok feeds) →
-      IfErr r (IsEndOf now feeds) →
-      IfErr r (λ answered. NextWindow false now (ended_by now answered) reader read (Err answered))
+      IfErr r (IsPlanEnd (next_plan now feeds)) →
+      IfErr r (λ answered. NextRows now (ended_by now answered) reader read (Err answered))
   all-ended feeds (Ok made) asks h = tt
   all-ended feeds (Err answered) asks h = ended-by feeds answered asks h
 
--- it has the ticks that were asked for
-pub all-long : {T E : Type 0} (window : T → WindowOf) (row : T → RowBands) (now : SessionOf) (feeds : List Tube)
-    (r : Result T E) → IfOk r (λ made. IsAccepted now feeds (window made) (row made)) →
-    IfOk r (λ made. (window made).ticks ≡ next_ticks now)
-all-long window row now feeds (Err e) h = tt
-all-long window row now feeds (Ok made) h = h.stepped.run.ticks
-
 -- and where it stands then
-pub all-stand : {T E : Type 0} (window : T → WindowOf) (row : T → RowBands) (now : SessionOf) (feeds : List Tube)
+pub all-stand : {T E : Type 0} (text : T → List ℕ) (row : T → RowBands) (now : SessionOf) (feeds : List Tube)
     (r : Result T E) → IsSession now →
     ((plan : PlanOf) → IsPlan plan → AreCarried plan.parts (states_after plan)) →
-    IfOk r (λ made. IsAccepted now feeds (window made) (row made)) →
+    IfOk r (λ made. IsStepped (next_plan now feeds) (text made) (row made)) →
     IfOk r (λ made. IsStepper (stepped_on now (row made)) (row made))
-all-stand window row now feeds (Err e) is law h = tt
-all-stand window row now feeds (Ok made) is law h = record {
+all-stand text row now feeds (Err e) is law h = tt
+all-stand text row now feeds (Ok made) is law h = record {
   session_is = record {
     plant = is.plant;
-    tick = h.stepped.plan_is.inside;
-    carried = subst (AreCarried now.parts) (sym h.stepped.states) (law (next_plan now feeds) h.stepped.plan_is);
+    tick = h.plan_is.inside;
+    carried = subst (AreCarried now.parts) (sym h.states) (law (next_plan now feeds) h.plan_is);
   };
-  row_is = h.stepped.row_is;
+  row_is = h.row_is;
 }
-
--- or why it is not
-pub ended : {T : Type 0} (now : SessionOf) (feeds : List Tube) (end : WindowEnd) (r : Result T WindowEnd) →
-    IsErrAnd r (λ answered. answered ≡ end) →
-    IsWideEnd now.parts (bands_of_plan (next_plan now feeds)) now.tick (next_ticks now) end →
-    IfErr r (IsEndOf now feeds)
-ended now feeds end (Ok made) e wide = absurd e
-ended now feeds end (Err answered) e wide =
-    inr (subst (IsWideEnd now.parts (bands_of_plan (next_plan now feeds)) now.tick (next_ticks now)) (sym e) wide)

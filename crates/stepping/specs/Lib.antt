@@ -1,1 +1,2 @@
+pub mod NextRows
 pub mod Stepping

@@ -3,17 +3,16 @@
 ghost use Rattle.std.specs.Prelude.{◌≡◌};
 ghost use Rattle.window_accept.specs.Session.{end_by};
 
-use crate::window::{narrow, step_window};
+use crate::window::step_window;
 use feeds::{FeedFault, FeedReader, given_feeds_can_be_planned};
 use flow_edge::Source;
 use plant::{Plant, Row};
-use relax_core::Window;
+use plant_names::Text;
 use renewal::{windows_carry_the_run, windows_keep_limits};
 use std::alloc::{AllocError, Global};
 use std::marker::Model;
-use std::thread::Threads;
 use tubes::Tube;
-use window_accept::{WindowEnd, Windows};
+use window_accept::WindowEnd;
 
 /// A plant with its row at the first tick of its next window, and why it ended, where it did.
 #[derive(Drop)]
@@ -45,10 +44,10 @@ impl Model for Stepper {
     }) stepper.row };
 }
 
-/// A window that was stepped, and the row at the tick after it.
+/// The output's rows of a window that was stepped, and the plant's row at the tick after it.
 #[derive(Drop)]
 struct Stepped {
-    window: Window,
+    text: Text,
     row: Row,
 }
 
@@ -63,11 +62,12 @@ fn end_by(fault: FeedFault) -> WindowEnd
 }
 
 impl Stepper {
-    ghost use Rattle.std.specs.Prelude.{◌≡◌, ◌<◌, ◌≤◌, false, None, Ok, Err, IfOk, IfErr};
+    ghost use Rattle.std.specs.Prelude.{◌≡◌, ◌<◌, None, Ok, Err, IfOk, IfErr};
     ghost use Rattle.feeds.specs.ReaderOf.{feeding};
     ghost use Rattle.feeds.specs.Reader.{AreFeedTubes};
-    ghost use Rattle.window_accept.specs.Session.{opening_session, next_ticks, next_plan, ended_by, IsReady, NextWindow};
-    ghost use Rattle.stepping.specs.Stepping.{IsStepped, IsAccepted, IsEndOf, stepped_on, IsStepper};
+    ghost use Rattle.window_accept.specs.Session.{opening_session, next_ticks, next_plan, ended_by, IsSession, IsReady};
+    ghost use Rattle.stepping.specs.NextRows.{NextRows};
+    ghost use Rattle.stepping.specs.Stepping.{IsStepped, IsPlanEnd, stepped_on, IsStepper};
 
     /// A stepper before the plant's first window.
     pub fn open(alloc: Global, plant: Plant) -> Result<Self, AllocError>
@@ -82,6 +82,13 @@ impl Stepper {
         })
     }
 
+    pub fn plant(&self) -> &Plant
+        ensures plant { result.now ≡ self.now.parts }
+        ensures session { IsSession self.now }
+    {
+        &self.plant
+    }
+
     /// How many ticks the next window has.
     fn next_ticks(&self) -> u32
         ensures { result ≡ next_ticks self.now }
@@ -91,14 +98,15 @@ impl Stepper {
     }
 
     /// Steps a copy of the row through the next window.
-    fn stepped(&self, alloc: Global, feeds: &[Tube]) -> Result<Stepped, AllocError>
+    fn stepped(&self, alloc: Global, feeds: &[Tube]) -> Result<Stepped, WindowEnd>
         requires left { self.now.tick < self.now.parts.ticks }
         requires feeds { AreFeedTubes self.now.parts (next_ticks self.now) feeds.now }
-        ensures { IfOk result (λ made. IsStepped (next_plan self.now feeds.now) made.window made.row) }
+        ensures ok { IfOk result (λ made. IsStepped (next_plan self.now feeds.now) made.text made.row) }
+        ensures err { IfErr result (IsPlanEnd (next_plan self.now feeds.now)) }
     {
         given_feeds_can_be_planned();
         let mut row = self.row.copied(alloc)?;
-        let window = step_window(
+        let text = step_window(
             alloc,
             &self.plant,
             self.tick,
@@ -106,25 +114,10 @@ impl Stepper {
             feeds,
             &mut row,
         )?;
-        Ok(Stepped { window, row })
+        Ok(Stepped { text, row })
     }
 
-    /// Steps the next window, and judges its widths.
-    fn judged(&self, alloc: Global, feeds: &[Tube]) -> Result<Stepped, WindowEnd>
-        requires left { self.now.tick < self.now.parts.ticks }
-        requires feeds { AreFeedTubes self.now.parts (next_ticks self.now) feeds.now }
-        ensures ok { IfOk result (λ made. IsAccepted self.now feeds.now made.window made.row) }
-        ensures err { IfErr result (IsEndOf self.now feeds.now) }
-    {
-        let Ok(made) = self.stepped(alloc, feeds) else {
-            return Err(WindowEnd::NoMemory);
-        };
-        windows_keep_limits();
-        narrow(&self.plant, &made.window)?;
-        Ok(made)
-    }
-
-    /// Makes the next window: asks for its feeds, steps it, and judges it.
+    /// Makes the next window's rows: asks for its feeds, and steps it.
     fn made<E: Source>(
         &self,
         alloc: Global,
@@ -133,11 +126,10 @@ impl Stepper {
     ) -> Result<Stepped, WindowEnd>
         requires end { self.now.end ≡ None }
         requires ready { IsReady self.now feeds.old }
-        ensures ok { IfOk result (λ made. NextWindow false self.now (stepped_on self.now made.row)
-            (feeding E.left E.faults feeds.old source.old) (feeding E.left E.faults feeds.new source.new) (Ok made.window)) }
-        ensures ticks { IfOk result (λ made. made.window.ticks ≡ next_ticks self.now) }
+        ensures ok { IfOk result (λ made. NextRows self.now (stepped_on self.now made.row)
+            (feeding E.left E.faults feeds.old source.old) (feeding E.left E.faults feeds.new source.new) (Ok made.text)) }
         ensures stepper { IfOk result (λ made. IsStepper (stepped_on self.now made.row) made.row) }
-        ensures err { IfErr result (λ end. NextWindow false self.now (ended_by self.now end)
+        ensures err { IfErr result (λ end. NextRows self.now (ended_by self.now end)
             (feeding E.left E.faults feeds.old source.old) (feeding E.left E.faults feeds.new source.new) (Err end)) }
     {
         if self.tick == self.plant.parts().ticks {
@@ -145,40 +137,35 @@ impl Stepper {
         }
         match feeds.next_window(alloc, &self.plant, source, self.tick, self.next_ticks()) {
             Ok(tubes) => {
+                windows_keep_limits();
                 windows_carry_the_run();
-                self.judged(alloc, tubes.as_slice())
+                self.stepped(alloc, tubes.as_slice())
             }
             Err(fault) => Err(end_by(fault)),
         }
     }
-}
 
-impl Windows for Stepper {
-    ghost use Rattle.std.specs.Prelude.{false};
-
-    ghost session = { λ stepper. stepper };
-
-    ghost relaxes = { false };
-
-    fn plant(&self) -> &Plant {
-        &self.plant
-    }
-
-    fn next_window<R: Threads + Sync, E: Source>(
+    /// The output's rows of the next window, which is stepped from the feeds that the reader gives, up to the first band that is wider
+    /// than was asked. An end is kept, and answered from then on.
+    pub fn next_rows<E: Source>(
         &mut self,
-        _rt: &R,
         alloc: Global,
         feeds: &mut FeedReader,
         source: &mut E,
-    ) -> Result<Window, WindowEnd> {
+    ) -> Result<Text, WindowEnd>
+        requires { IsReady self.old feeds.old }
+        ensures { NextRows self.old self.new
+            (feeding E.left E.faults feeds.old source.old) (feeding E.left E.faults feeds.new source.new) result }
+    {
         if let Some(end) = self.end {
             return Err(end);
         }
+        let ticks = self.next_ticks();
         match self.made(alloc, feeds, source) {
             Ok(made) => {
-                self.tick += made.window.ticks;
+                self.tick += ticks;
                 self.row = made.row;
-                Ok(made.window)
+                Ok(made.text)
             }
             Err(end) => {
                 self.end = Some(end);

@@ -1,6 +1,7 @@
 -- Places at which a band is wider than was asked.
-use Rattle.std.proofs.Common.{◌≡◌, ◌∙◌, ℕ, ◌<◌, ℤ, pos, Bool, List, length}
-use Rattle.std.proofs.Common.{refl, sym, ap, subst, Some, None}
+use Rattle.std.proofs.Common.{◌≡◌, ◌∙◌, ℕ, ◌+◌, ◌<◌, ℤ, pos, Bool, List, length}
+use Rattle.std.proofs.Common.{refl, sym, ap, subst, inl, inr, arith, Some, None}
+use Rattle.std.proofs.lemmas.Bool.{cases_eq}
 use Rattle.std.specs.Prelude.{slice_index_or}
 use Rattle.quant.specs.Interval.{Interval, point}
 use Rattle.flowsheet.specs.Plant.{origin_of, feed}
@@ -10,7 +11,7 @@ use Rattle.plant.specs.PlantOf.{plant_of}
 use Rattle.relax_core.specs.Stepping.{IsOutputOf}
 use Rattle.window_accept.specs.declared.channels.WideChannel.{WideChannel}
 use Rattle.window_accept.specs.declared.wide.TooWide.{TooWide}
-use Rattle.window_accept.specs.Wide.{asked_of, is_signal, width_of}
+use Rattle.window_accept.specs.Wide.{asked_of, is_signal, width_of, IsTooWide, IsFirstWide}
 use Rattle.window_accept.specs.Searching.{IsWideChannel, FindsChannel, IsTooWideAt, FindsInStream}
 
 -- what is fed is not judged
@@ -72,3 +73,27 @@ module _ (parts : FileParts) (bands : ℕ → ℕ → List Interval) (t s : ℕ)
     },
     λ other here sooner. first.1 (channel-of other) sooner (in-row other here),
   )
+
+-- the streams of a tick, one after another
+module _ (parts : FileParts) (bands : ℕ → ℕ → List Interval) (t s : ℕ)
+    (none : (other : TooWide) → other.tick ≡ t → other.stream < s → IsTooWide parts bands other → ⊥) where
+  pub none-more : FindsInStream None parts bands t s → (other : TooWide) → other.tick ≡ t → other.stream < s + 1 →
+      IsTooWide parts bands other → ⊥
+  none-more here other tick below is = elim (cases_eq other.stream s) [
+    | inl e ↦ here other (record { tick = tick; stream = e; wide_is = is })
+    | inr ne ↦ none other tick (omega arith) is
+  ]
+
+  pub first-at-tick : (place : TooWide) → FindsInStream (Some place) parts bands t s → IsFirstWide parts bands t 1 place
+  first-at-tick place here = record {
+    among = (omega (arith, here.0.tick), omega (arith, here.0.tick));
+    wide_is = here.0.wide_is;
+    sooner = λ other among is sooner. elim sooner [
+      | inl l ↦ omega (arith, among.0, here.0.tick, l)
+      | inr rest ↦ elim rest.1 [
+        | inl l ↦ none other (rest.0 ∙ here.0.tick) (omega (arith, here.0.stream, l)) is
+        | inr last ↦ here.1 other
+            (record { tick = rest.0 ∙ here.0.tick; stream = last.0 ∙ here.0.stream; wide_is = is }) last.1
+      ]
+    ];
+  }

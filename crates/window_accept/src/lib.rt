@@ -8,12 +8,10 @@ mod laws;
 mod session;
 mod settling;
 mod wide;
-mod windows;
 
 pub use end::WindowEnd;
 pub use laws::{
     first_wide_places_are_one, readers_stay_ready, sessions_follow_the_run, wide_places_are_found,
 };
 pub use session::Session;
-pub use wide::{TooWide, first_wide};
-pub use windows::{Relaxing, Windows};
+pub use wide::{TooWide, first_wide, wide_in_row};

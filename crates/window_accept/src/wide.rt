@@ -1,16 +1,18 @@
 //! The first place of a window at which a band is wider than was asked.
 
-ghost use Rattle.std.specs.Prelude.{◌<◌, ◌+◌, ℕ, [], length, slice_index_or};
-ghost use Rattle.quant.specs.Interval.{AllInside};
+ghost use Rattle.std.specs.Prelude.{◌≡◌, ◌<◌, ◌+◌, ℕ, List, [], length, slice_index_or};
+ghost use Rattle.quant.specs.Interval.{Interval, AllInside};
 ghost use Rattle.relaxation.specs.Tube.{at};
 ghost use Rattle.plant_streams.specs.Streams.{streams_of};
 ghost use Rattle.plant_streams.specs.Limits.{limits_at};
+ghost use Rattle.plant.specs.Rows.{IsRow, stream_in};
 ghost use Rattle.relax_core.specs.Settled.{IsWindow, bands_in};
 ghost use Rattle.window_accept.specs.Wide.{FindsWide};
 ghost use Rattle.window_accept.specs.Searching.{IsInLimits, FindsInStream};
 
 use crate::channels::{asks_for_widths, wide_channel};
-use plant::{Plant, StreamSource};
+use plant::{Plant, Row, StreamSource};
+use quant::Band;
 use relax_core::Window;
 
 /// A band that is wider than was asked: the stream and its channel by their numbers, the tick of the plant, the band's width and
@@ -24,8 +26,29 @@ pub struct TooWide {
     pub limit: i64,
 }
 
-/// The first channel of a stream at a tick of a window, counted from its first, at which its band is wider than the plant file asks;
-/// what is fed has no such channel.
+/// The first channel of a stream at a tick of the plant at which its row of bands is wider than the plant file asks; what is fed has no
+/// such channel.
+fn wide_in_bands(plant: &Plant, tick: u32, stream: u32, row: &[Band]) -> Option<TooWide>
+    requires stream { stream < length (streams_of plant.now) }
+    requires limits { AllInside row.now (limits_at plant.now stream) }
+    ensures { (bands : ℕ → ℕ → List Interval) → bands tick stream ≡ row.now → FindsInStream result plant.now bands tick stream }
+{
+    let widths = plant.parts().width;
+    let giver = &plant.streams()[stream as usize];
+    if let StreamSource::Feed { .. } = giver.source {
+        return None;
+    }
+    let found = wide_channel(widths, giver.signal, row)?;
+    Some(TooWide {
+        stream,
+        channel: found.channel,
+        tick,
+        width: found.width,
+        limit: found.limit,
+    })
+}
+
+/// The first such channel of a stream at a tick of a window, counted from its first.
 fn wide_in_stream(plant: &Plant, window: &Window, tick: u32, stream: u32) -> Option<TooWide>
     requires window { IsInLimits plant.now window.now }
     requires tick { tick < window.now.ticks }
@@ -33,19 +56,27 @@ fn wide_in_stream(plant: &Plant, window: &Window, tick: u32, stream: u32) -> Opt
     ensures { FindsInStream result plant.now (bands_in window.now) (window.now.first + tick) stream }
 {
     prove!(tick < plant.parts().ticks - window.first);
-    let giver = &plant.streams()[stream as usize];
-    if let StreamSource::Feed { .. } = giver.source {
+    let row = window.tubes[stream as usize].row(tick);
+    wide_in_bands(plant, window.first + tick, stream, row)
+}
+
+/// The first place at a tick of the plant, by stream and then by channel, at which a band of a unit's stream in a row is wider than
+/// the plant file asks.
+pub fn wide_in_row(plant: &Plant, tick: u32, row: &Row) -> Option<TooWide>
+    requires row { IsRow plant.now row.now }
+    requires limits { (s : ℕ) → s < length (streams_of plant.now) → AllInside (stream_in row.now s) (limits_at plant.now s) }
+    ensures { FindsWide result plant.now (λ t s. stream_in row.now s) tick 1 }
+{
+    if !asks_for_widths(plant.parts().width) {
         return None;
     }
-    let row = window.tubes[stream as usize].row(tick);
-    let found = wide_channel(plant.parts().width, giver.signal, row)?;
-    Some(TooWide {
-        stream,
-        channel: found.channel,
-        tick: window.first + tick,
-        width: found.width,
-        limit: found.limit,
-    })
+    let count = plant.streams().len() as u32;
+    for stream in 0..count {
+        if let Some(place) = wide_in_bands(plant, tick, stream, row.stream(stream)) {
+            return Some(place);
+        }
+    }
+    None
 }
 
 /// The first place at a tick of a window, counted from its first, by stream and then by channel.

@@ -3,7 +3,7 @@ use Rattle.std.proofs.Common.{◌≡◌, ◌∙◌, subst, ap, refl}
 use Rattle.parts.specs.Parts.{FileParts}
 use Rattle.window_accept.specs.Session.{SessionOf, IsSession, finished}
 use Rattle.stepping.specs.declared.stepper.Stepped.{Stepped}
-use Rattle.stepping.proofs.Answered.{asked, asked-with, going-on, unfed-end, all-given, all-ended, all-long, all-stand}
+use Rattle.stepping.proofs.Answered.{asked, asked-with, going-on, unfed-end, all-given, all-ended, all-stand}
 use Rattle.stepping.proofs.stepper.Stepper.made.Goals as goal
 
 pub returns-then-self-parts-clause-err : goal.returns-then-self-parts-clause-err
@@ -12,8 +12,8 @@ returns-then-self-parts-clause-err g c =
     finished c.requires.end (subst (λ (s : SessionOf). s.tick ≡ s.parts.ticks) c.self.view_is
     (c.if-self-parts.true ∙ last)) refl refl
 
-pub judged-requires-clause-feeds : goal.judged-requires-clause-feeds
-judged-requires-clause-feeds g c =
+pub stepped-requires-clause-feeds : goal.stepped-requires-clause-feeds
+stepped-requires-clause-feeds g c =
     (asked-with _ c.args.self.now c.next_ticks.result _ _ _ _ c.self.view_is c.next_ticks.ensures c.as_slice.ensures
     c.in-Ok.ensures.gives).tubes
 
@@ -26,13 +26,12 @@ returns-in-Ok g c =
     let asks = asked-with _ now c.next_ticks.result _ _ _ _ c.self.view_is c.next_ticks.ensures c.as_slice.ensures
     c.in-Ok.ensures.gives in
     record {
-      ok = all-given now _ _ going (λ (made : Stepped). made.window) (λ made. made.row) feeds c.judged.result asks
-          c.judged.ensures.ok;
-      ticks = all-long (λ (made : Stepped). made.window) (λ made. made.row) now feeds c.judged.result c.judged.ensures.ok;
-      stepper = all-stand (λ (made : Stepped). made.window) (λ made. made.row) now feeds c.judged.result
+      ok = all-given now _ _ going (λ (made : Stepped). made.text) (λ made. made.row) feeds c.stepped.result asks
+          c.windows_keep_limits.ensures c.stepped.ensures.ok;
+      stepper = all-stand (λ (made : Stepped). made.text) (λ made. made.row) now feeds c.stepped.result
           (subst IsSession c.self.view_is c.self.invariant.session_is) c.windows_carry_the_run.ensures.within
-          c.judged.ensures.ok;
-      err = all-ended now _ _ going feeds c.judged.result asks c.judged.ensures.err;
+          c.stepped.ensures.ok;
+      err = all-ended now _ _ going feeds c.stepped.result asks c.stepped.ensures.err;
     }
 
 pub returns-in-Err-clause-err : goal.returns-in-Err-clause-err

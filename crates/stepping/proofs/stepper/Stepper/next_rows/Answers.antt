@@ -1,7 +1,7 @@
 -- The end that is kept is answered.
 use Rattle.std.proofs.Common.{◌∙◌, refl, sym, ap}
 use Rattle.window_accept.specs.Session.{SessionOf, again}
-use Rattle.stepping.proofs.stepper.StepperWindows.next_window.Goals as goal
+use Rattle.stepping.proofs.stepper.Stepper.next_rows.Goals as goal
 
 pub returns-in-Some : goal.returns-in-Some
 returns-in-Some g c =
