@@ -1,3 +1,4 @@
+pub mod Adoptable
 pub mod Boards
 pub mod Carried
 pub mod Changes

@@ -5,6 +5,8 @@ ghost use Rattle.tubes.specs.Shape.{HasShapeOf};
 ghost use Rattle.relax_core.specs.Judging.{Compares};
 
 use crate::board::{Board, StepFault, Stepped};
+use crate::givers::inputs_for;
+use crate::laws::boards_have_versions;
 use crate::refs::Refs;
 use quant::Band;
 use std::alloc::{AllocError, Global};
@@ -35,6 +37,30 @@ impl Model for Made {
       refs = made.refs;
       tube = made.tube;
     } };
+}
+
+impl Made {
+    ghost use Rattle.std.specs.Prelude.{true, ◌↔◌};
+    ghost use Rattle.relax_core.specs.Adopting.{IsMadeFor};
+
+    /// Whether a board may adopt it: a unit gives its stream, it names a version for each input port, and its tube has
+    /// the stream's shape.
+    pub fn is_for(&self, board: &Board<'_>) -> bool
+        ensures { (result ≡ true) ↔ IsMadeFor board.now.plan self.now }
+    {
+        boards_have_versions();
+        let plan = board.plan();
+        if plan.plant().streams().len() <= self.stream as usize {
+            return false;
+        }
+        match inputs_for(plan, self.stream) {
+            Some(streams) => {
+                self.refs.as_slice().len() == streams.len()
+                    && self.tube.fits(board.last(self.stream))
+            }
+            None => false,
+        }
+    }
 }
 
 /// Why a version was not adopted.

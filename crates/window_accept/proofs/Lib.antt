@@ -1,7 +1,6 @@
 pub mod Streams
 pub mod Places
 pub mod Following
-pub mod Adoptable
 pub mod Judging
 pub mod Making
 pub mod Readers

@@ -1,28 +1,9 @@
 //! The adoption of versions that were made elsewhere, as far as they can be.
 
 ghost use Rattle.std.specs.Prelude.{◌≡◌};
-ghost use Rattle.std.specs.Bool.{OnTrue};
-ghost use Rattle.relax_core.specs.Adopting.{IsMadeFor};
 
-use relax_core::{AdoptFault, Board, Made, boards_have_versions, inputs_for};
+use relax_core::{AdoptFault, Board, Made};
 use std::alloc::{AllocError, Global};
-
-/// Whether a unit gives a version's stream, it names a version for each input port, and its tube has the stream's shape.
-fn is_for(board: &Board<'_>, made: &Made) -> bool
-    ensures { OnTrue result (IsMadeFor board.now.plan made.now) }
-{
-    boards_have_versions();
-    let plan = board.plan();
-    if plan.plant().streams().len() <= made.stream as usize {
-        return false;
-    }
-    match inputs_for(plan, made.stream) {
-        Some(streams) => {
-            made.refs.as_slice().len() == streams.len() && made.tube.fits(board.last(made.stream))
-        }
-        None => false,
-    }
-}
 
 /// Adopts versions in their order, up to the first that is not one for the board or that the board refuses.
 pub(crate) fn adopt_front(
@@ -33,7 +14,7 @@ pub(crate) fn adopt_front(
     ensures { board.new.plan ≡ board.old.plan }
 {
     for version in made {
-        if !is_for(board, version) {
+        if !version.is_for(board) {
             return Ok(());
         }
         match board.adopt(alloc, version) {

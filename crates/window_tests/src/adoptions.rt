@@ -1,14 +1,10 @@
 //! Versions of the worked tank's first window that were made elsewhere: its outflow is stream 2 and its level stream 3.
 
-ghost use Rattle.std.specs.Prelude.{◌≡◌};
-ghost use Rattle.std.specs.Bool.{OnTrue};
-ghost use Rattle.relax_core.specs.Adopting.{IsMadeFor};
-
-use crate::renewals::WORKED_TANK;
-use crate::windows::{plant_with_units, settled, window_in};
+use crate::renewals::worked_tank;
+use crate::windows::{settled, window_in};
 use plant::Plant;
 use quant::Band;
-use relax_core::{AdoptFault, Board, Made, Refs, Stepped, boards_have_versions, inputs_for};
+use relax_core::{AdoptFault, Board, Made, Refs, Stepped};
 use renewal::{WindowPlan, opening_tube};
 use std::alloc::Global;
 use std::process::Abort;
@@ -118,23 +114,6 @@ const CASES: [Case; 9] = [
     },
 ];
 
-/// Whether a unit gives a version's stream, it names a version for each input port, and its tube has the stream's shape.
-fn is_for(board: &Board<'_>, made: &Made) -> bool
-    ensures { OnTrue result (IsMadeFor board.now.plan made.now) }
-{
-    boards_have_versions();
-    let plan = board.plan();
-    if plan.plant().streams().len() <= made.stream as usize {
-        return false;
-    }
-    match inputs_for(plan, made.stream) {
-        Some(streams) => {
-            made.refs.as_slice().len() == streams.len() && made.tube.fits(board.last(made.stream))
-        }
-        None => false,
-    }
-}
-
 /// The tube of a stream of a plan.
 fn tube_of(alloc: Global, plan: &WindowPlan<'_>, stream: u32, has: Has) -> Result<Tube, Fail> {
     if plan.plant().streams().len() <= stream as usize {
@@ -165,7 +144,7 @@ fn try_adoptions<R: Abort>(rt: &R, alloc: Global, plant: &Plant) -> Result<(), F
     for case in &CASES {
         let name = case.name;
         let made = made_of(alloc, &plan, case)?;
-        assert!(rt; is_for(&board, &made), "at {name}");
+        assert!(rt; made.is_for(&board), "at {name}");
         assert_eq!(rt; board.adopt(alloc, &made), case.answer, "at {name}");
     }
     assert_eq!(rt; board.rows().len(), 2);
@@ -174,6 +153,5 @@ fn try_adoptions<R: Abort>(rt: &R, alloc: Global, plant: &Plant) -> Result<(), F
 
 #[test]
 fn versions_are_adopted_or_refused(rt: HostRuntime) -> Result<(), Fail> {
-    let plant = plant_with_units(rt.alloc(), &[WORKED_TANK])?;
-    try_adoptions(&rt, rt.alloc(), &plant)
+    try_adoptions(&rt, rt.alloc(), &worked_tank(rt.alloc())?)
 }

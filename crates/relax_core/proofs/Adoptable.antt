@@ -1,6 +1,5 @@
 -- What may be adopted on a board.
-use Rattle.std.proofs.Common.{◌≡◌, ◌∙◌, ℕ, ◌-◌, ◌<◌, Bool, true, false, length, refl, ap, subst, arith}
-use Rattle.std.specs.Bool.{OnTrue}
+use Rattle.std.proofs.Common.{◌≡◌, ◌∙◌, ℕ, ◌-◌, ◌<◌, length, ap, sym, subst, arith}
 use Rattle.flowsheet.specs.Plant.{origin_of}
 use Rattle.relaxation.specs.Tube.{Tube, IsWithin}
 use Rattle.relaxation.specs.Core.{versions_of, version_at, last_of}
@@ -13,10 +12,6 @@ use Rattle.relax_core.specs.Stepping.{IsOutputOf, reads_for}
 use Rattle.relax_core.specs.Adopting.{MadeOf, IsMadeFor}
 use Rattle.relax_core.proofs.Readings.{within-shape}
 
-pub on-true : (b : Bool) (P : Type 0) → (b ≡ true → P) → OnTrue b P
-on-true true P h = h refl
-on-true false P h = tt
-
 -- a tube of the shape of a stream's last version has that of its opening tube
 pub last-shape : (board : BoardOf) (s : ℕ) (tube : Tube) → 0 < length (versions_of board.versions s) →
     ((k : ℕ) → k < length (versions_of board.versions s) →
@@ -24,6 +19,13 @@ pub last-shape : (board : BoardOf) (s : ℕ) (tube : Tube) → 0 < length (versi
     HasShapeOf tube (last_of board.versions s) → HasShapeOf tube ((window_of board.plan).opening s)
 last-shape board s tube some within h =
     h ∙ within-shape _ _ (within (length (versions_of board.versions s) - 1) (omega arith))
+
+pub shape-of-last : (board : BoardOf) (s : ℕ) (tube : Tube) → 0 < length (versions_of board.versions s) →
+    ((k : ℕ) → k < length (versions_of board.versions s) →
+    IsWithin (version_at board.versions s k) ((window_of board.plan).opening s)) →
+    HasShapeOf tube ((window_of board.plan).opening s) → HasShapeOf tube (last_of board.versions s)
+shape-of-last board s tube some within h =
+    h ∙ sym (within-shape _ _ (within (length (versions_of board.versions s) - 1) (omega arith)))
 
 -- what a plan's board may adopt
 pub made-for : (plan board_plan : PlanOf) (made : MadeOf) → plan ≡ board_plan → made.stream < length (streams_of plan.parts) →
