@@ -1,5 +1,5 @@
 -- A tick's bands are appended, and those of the ticks after it are left.
-use Rattle.std.proofs.Common.{◌≡◌, ◌∙◌, ◌+◌, ◌<◌, ◌≤◌, List, ◌++◌, length, sym, ap, arith, append_assoc}
+use Rattle.std.proofs.Common.{◌∙◌, ◌+◌, ◌<◌, ◌≤◌, List, ◌++◌, length, sym, ap, arith, append_assoc}
 use Rattle.std.proofs.lemmas.List.{append-nil}
 use Rattle.quant.specs.Interval.{Interval}
 use Rattle.relax_core.specs.Versions.{bands_from}

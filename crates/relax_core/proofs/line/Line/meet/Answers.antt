@@ -1,7 +1,6 @@
 -- What is kept leads from the meet back to the version before it.
-use Rattle.std.proofs.Common.{◌≡◌, ◌∙◌, ℕ, List, [], ◌∷◌, ◌++◌, length, sym, ap, refl, arith, Result, Ok, Err, OnErr}
+use Rattle.std.proofs.Common.{◌∙◌, List, [], ◌∷◌, ◌++◌, ap, refl, arith, Result, Ok, Err, OnErr}
 use Rattle.quant.specs.Interval.{Interval}
-use Rattle.relaxation.specs.Tube.{Tube, meet}
 use Rattle.relax_core.specs.Versions.{all_versions}
 use Rattle.relax_core.specs.declared.line.Change.{Change}
 use Rattle.relax_core.proofs.Meets.{met-is}

@@ -1,7 +1,5 @@
 -- Each change leads one version back.
-use Rattle.std.proofs.Common.{◌≡◌, ◌∙◌, ℕ, ◌-◌, ◌<◌, ◌≤◌, List, length, take, drop, sym, ap, subst, arith, slice_index_or}
-use Rattle.quant.specs.Interval.{Interval}
-use Rattle.relaxation.specs.Tube.{Tube}
+use Rattle.std.proofs.Common.{◌≡◌, ◌∙◌, ℕ, ◌-◌, ◌<◌, List, length, drop, sym, ap, subst, arith, slice_index_or}
 use Rattle.relax_core.specs.Versions.{bands_from, oldest, IsReplaced}
 use Rattle.relax_core.specs.declared.line.Change.{Change}
 use Rattle.relax_core.proofs.Replaced.{all-at, all-drop, next-there, rest-whole, version-is}

@@ -1,5 +1,5 @@
 -- Each line's newest version is its last.
-use Rattle.std.proofs.Common.{◌≡◌, ◌∙◌, [], ◌∷◌, ◌++◌, List, length, map, sym, ap, arith, append_assoc}
+use Rattle.std.proofs.Common.{◌∙◌, [], ◌∷◌, ◌++◌, List, length, map, sym, ap, arith, append_assoc}
 use Rattle.std.proofs.lemmas.List.{nil_from_length, append-nil}
 use Rattle.relaxation.specs.Tube.{Tube}
 use Rattle.relax_core.specs.declared.line.Line.{Line}

@@ -1,5 +1,5 @@
 -- One line is another, and the versions of the others stay as more is replaced.
-use Rattle.std.proofs.Common.{◌≡◌, ◌∙◌, ◌<◌, List, [], ◌∷◌, ◌++◌, length, sym, ap, subst, arith, Result, Ok, Err, OnOk, OnErr}
+use Rattle.std.proofs.Common.{◌∙◌, ◌<◌, List, [], ◌∷◌, ◌++◌, length, sym, ap, subst, arith, Result, Ok, Err, OnOk, OnErr}
 use Rattle.std.proofs.lemmas.List.{set-get_or}
 use Rattle.relaxation.specs.Tube.{Tube, HasNumbers, meet}
 use Rattle.relaxation.specs.Core.{versions_of, last_of}

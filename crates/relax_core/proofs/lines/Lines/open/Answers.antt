@@ -1,5 +1,5 @@
 -- Each stream has its opening tube.
-use Rattle.std.proofs.Common.{◌≡◌, ◌∙◌, ℕ, ◌+◌, [], ◌∷◌, List, length, map, sym, ap, arith}
+use Rattle.std.proofs.Common.{◌≡◌, ◌∙◌, ℕ, [], ◌∷◌, List, length, map, sym, ap, arith}
 use Rattle.std.specs.List.{range_with_len}
 use Rattle.quant.specs.Interval.{Interval}
 use Rattle.plant_streams.specs.Streams.{streams_of}

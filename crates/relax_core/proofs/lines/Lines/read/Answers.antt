@@ -1,4 +1,4 @@
-use Rattle.std.proofs.Common.{◌≡◌, ◌∙◌, ◌<◌, ◌≤◌, length, map, sym, arith}
+use Rattle.std.proofs.Common.{◌∙◌, ◌<◌, ◌≤◌, length, arith}
 use Rattle.relax_core.proofs.Replaced.{lines-counted, line-counted, line-shape}
 use Rattle.relax_core.proofs.lines.Lines.read.Goals as goal
 
