@@ -3,7 +3,7 @@
 use crate::runs::{OPEN, Sinks, call, spoken};
 use crate::sources::{Plant, bytes_of};
 use crate::written::{TRACE_HEADER, Written, is_written, output_of};
-use flow_edge::{MemSource, Source, Status, ThinSource};
+use flow_edge::{MemSource, NoSource, Source, Status, ThinSource};
 use flow_top::files;
 use plant_texts::MIXED;
 use std::alloc::Global;
@@ -18,6 +18,7 @@ mod refusals;
 mod summaries;
 mod texts;
 mod windows;
+mod words;
 
 /// One call: what it is handed, and what has to come of it.
 #[derive(Clone, Copy)]
@@ -121,7 +122,7 @@ where
         failing_err_writes: case.failing_err_writes,
         room: case.room,
     };
-    let answer = call(rt, alloc, case.words, plant, sinks)?;
+    let answer = call(rt, alloc, case.words, plant, &mut NoSource, sinks)?;
     let name = case.name;
     assert_eq!(rt; answer.status, case.status, "at {name}");
     assert!(rt;
@@ -137,7 +138,7 @@ where
     Ok(())
 }
 
-/// The same however few bytes the source gives at a time.
+/// The same comes of a case however few bytes the source gives at a time.
 fn try_case<R: Abort + Threads + Sync>(rt: &R, alloc: Global, case: &Case) -> Result<(), Fail> {
     let text = bytes_of(alloc, case.plant)?;
     let failing = Vec::from_slice(alloc, case.failing_reads)?;
@@ -156,43 +157,13 @@ where
     Ok(())
 }
 
-#[test]
-fn refuses_texts_as_it_should(rt: HostRuntime) -> Result<(), Fail> {
-    try_cases(&rt, rt.alloc(), &refusals::CASES)
-}
-
-#[test]
-fn ends_each_call_as_it_should(rt: HostRuntime) -> Result<(), Fail> {
-    try_cases(&rt, rt.alloc(), &devices::CASES)
-}
-
-#[test]
-fn sums_up_plants_as_it_should(rt: HostRuntime) -> Result<(), Fail> {
-    try_cases(&rt, rt.alloc(), &summaries::CASES)
-}
-
-#[test]
-fn writes_ranks_as_it_should(rt: HostRuntime) -> Result<(), Fail> {
-    try_cases(&rt, rt.alloc(), &kinds::RANKED)
-}
-
-#[test]
-fn ends_calls_of_all_kinds_as_it_should(rt: HostRuntime) -> Result<(), Fail> {
-    try_cases(&rt, rt.alloc(), &kinds::CASES)
-}
-
-#[test]
-fn makes_windows_as_it_should(rt: HostRuntime) -> Result<(), Fail> {
-    try_cases(&rt, rt.alloc(), &windows::CASES)
-}
-
 /// The output of a command on a plant, which it runs to its end.
 fn output_on<R>(rt: &R, alloc: Global, words: &[&str], plant: Plant) -> Result<Vec<u8>, Fail>
 where
     R: Abort + Threads + Sync,
 {
     let mut source = MemSource::new(bytes_of(alloc, plant)?, Vec::new(alloc));
-    let answer = call(rt, alloc, words, &mut source, OPEN)?;
+    let answer = call(rt, alloc, words, &mut source, &mut NoSource, OPEN)?;
     assert_eq!(rt; answer.status, Status::Done);
     Ok(answer.out)
 }

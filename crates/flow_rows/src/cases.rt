@@ -1,8 +1,9 @@
 //! Plants that are run or refused, and the line of each refusal.
 
 use crate::runs::{OPEN, call};
-use crate::sources::{Plant, bytes_of};
-use flow_edge::{MemSource, Status};
+use crate::sources::{FIRST_TANK, Plant, bytes_of};
+use flow_edge::{MemSource, NoSource, Status};
+use plant_texts::plant_with;
 use std::alloc::Global;
 use std::process::Abort;
 use std::test::Fail;
@@ -23,12 +24,20 @@ struct Case {
     refused: Option<&'static str>,
 }
 
-/// Runs a case, and compares the status and the error line.
-fn try_case<R: Abort + Threads + Sync>(rt: &R, alloc: Global, case: &Case) -> Result<(), Fail> {
-    let name = case.name;
-    let mut plant = MemSource::new(bytes_of(alloc, case.plant)?, Vec::new(alloc));
-    let answer = call(rt, alloc, &["run"], &mut plant, OPEN)?;
-    match case.refused {
+/// Runs a plant text, and compares the status and the error line, of which `refused` is the end.
+fn try_text<R>(
+    rt: &R,
+    alloc: Global,
+    name: &str,
+    text: Vec<u8>,
+    refused: Option<&str>,
+) -> Result<(), Fail>
+where
+    R: Abort + Threads + Sync,
+{
+    let mut plant = MemSource::new(text, Vec::new(alloc));
+    let answer = call(rt, alloc, &["run"], &mut plant, &mut NoSource, OPEN)?;
+    match refused {
         None => {
             assert_eq!(rt; answer.status, Status::Done, "at {name}");
             assert!(rt; answer.err.is_empty(), "at {name}");
@@ -48,7 +57,46 @@ where
     R: Abort + Threads + Sync,
 {
     for case in cases {
-        try_case(rt, alloc, case)?;
+        let text = bytes_of(alloc, case.plant)?;
+        try_text(rt, alloc, case.name, text, case.refused)?;
+    }
+    Ok(())
+}
+
+/// A phrase of the worked text, what may stand in its place, what may not, and what is said of that.
+type Bounds = (
+    &'static str,
+    &'static [&'static str],
+    &'static [&'static str],
+    &'static str,
+);
+
+/// Runs the worked text with each of these in the place of a phrase.
+fn try_each<R>(
+    rt: &R,
+    alloc: Global,
+    phrase: &str,
+    changes: &[&str],
+    refused: Option<&str>,
+) -> Result<(), Fail>
+where
+    R: Abort + Threads + Sync,
+{
+    for new in changes {
+        let text = plant_with(alloc, &[FIRST_TANK], &[(phrase, *new)])?;
+        try_text(rt, alloc, new, text.into_bytes(), refused)?;
+    }
+    Ok(())
+}
+
+/// Runs the worked text with what may stand in the place of a phrase, and with what may not.
+fn try_bounds<R>(rt: &R, alloc: Global, bounds: &[Bounds]) -> Result<(), Fail>
+where
+    R: Abort + Threads + Sync,
+{
+    for &(phrase, taken, refused, said) in bounds {
+        try_each(rt, alloc, phrase, taken, None)?;
+        try_each(rt, alloc, phrase, refused, Some(said))?;
     }
     Ok(())
 }

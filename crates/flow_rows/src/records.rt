@@ -1,6 +1,6 @@
 //! Runs by feed records, relaxed and stepped: the worked tank with a feed of 10 mL a tick, in windows of two ticks and of one.
 
-use crate::runs::{Answer, OPEN, call_fed};
+use crate::runs::{Answer, OPEN, call};
 use crate::sources::{Plant, bytes_of};
 use crate::written::{Written, is_written};
 use Records::{Padded, Text};
@@ -81,6 +81,8 @@ const REFUSED_LATER: Case = Case {
 
 /// Records that cannot be read.
 const READ_FAULT: Case = Case {
+    name: "the first read fails",
+    failing_reads: &[1],
     status: Status::ReadFault,
     ticks: &[],
     err: "flowrelax: read fault on extra\n",
@@ -208,11 +210,7 @@ static CASES: [Case; 24] = [
         err: "flowrelax: F4 outside at record 2\n",
         ..REFUSED
     },
-    Case {
-        name: "the first read fails",
-        failing_reads: &[1],
-        ..READ_FAULT
-    },
+    READ_FAULT,
     Case {
         name: "the second read fails",
         failing_reads: &[2],
@@ -240,7 +238,7 @@ where
 {
     let mut plant = MemSource::new(bytes_of(alloc, PLANT)?, Vec::new(alloc));
     let mut records = source_of(alloc, case.records, case.failing_reads)?;
-    call_fed(rt, alloc, words, &mut plant, &mut records, OPEN)
+    call(rt, alloc, words, &mut plant, &mut records, OPEN)
 }
 
 /// Gives the records of a case to a command, and compares what comes of it.

@@ -1,6 +1,6 @@
-//! One call of the program over devices in memory.
+//! Calls of the program over devices in memory.
 
-use flow_edge::{MemSink, NoSource, OpenGate, Source, Status, Word};
+use flow_edge::{MemSink, OpenGate, Source, Status, Word};
 use flow_top::flow_top;
 use std::alloc::Global;
 use std::process::Abort;
@@ -43,23 +43,8 @@ pub fn spoken(alloc: Global, words: &[&str]) -> Result<Vec<Word>, Fail> {
     Ok(spoken)
 }
 
-/// Calls the program with no feed records.
-pub fn call<R, S>(
-    rt: &R,
-    alloc: Global,
-    words: &[&str],
-    plant: &mut S,
-    sinks: Sinks,
-) -> Result<Answer, Fail>
-where
-    R: Abort + Threads + Sync,
-    S: Source,
-{
-    call_fed(rt, alloc, words, plant, &mut NoSource, sinks)
-}
-
-/// Calls the program with feed records.
-pub fn call_fed<R, S, E>(
+/// Calls the program with these feed records.
+pub fn call<R, S, E>(
     rt: &R,
     alloc: Global,
     words: &[&str],

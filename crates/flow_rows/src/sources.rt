@@ -1,7 +1,8 @@
 //! What the plant source of a case holds.
 
-use plant_texts::{TANK, Unit, changed, plant_of, plant_with, with_splitters};
+use plant_texts::{MIXER, SPLITTER, TANK, Unit, changed, plant_of, plant_with, with_splitters};
 use std::alloc::Global;
+use std::ops::Range;
 use std::test::Fail;
 
 /// The worked tank: it holds 1,000 mL, lets out a hundredth of them a tick, and takes in 10 to 12 mL at 100 mg/L.
@@ -40,45 +41,60 @@ pub enum Plant {
     Ring(u32),
 }
 
-const SIGNAL: (&str, &str) = ("[[feed]]\nname = \"", "\"\nkind = \"signal\"\nvalue = 0\n");
+/// A mixer in the place of the tank, which the splitter `s` feeds.
+pub const FED_BACK: Unit = ("t1", MIXER, &[("\"f\"]", "\"s.second\"]")]);
+
+/// It and its own splitter.
+pub const MIXER_LOOP: Plant = Plant::Of(
+    &[FED_BACK, ("s", SPLITTER, &[("\"f\"", "\"t1.out\"")])],
+    &[],
+);
+
+const SIGNAL: (&str, &str) = (
+    "[[feed]]\nname = \"more_",
+    "\"\nkind = \"signal\"\nvalue = 0\n",
+);
 
 const SMALL_TANK: (&str, &str) = (
-    "[[unit]]\nname = \"",
+    "[[unit]]\nname = \"more_",
     "\"\nkind = \"tank\"\nin = \"f\"\nvalve = \"v\"\nk = 1\nvolume = 1\nflow = 0\nconc = 0\ntemp = 0\n",
 );
 
-/// The worked text, and after it so many tables like this, each with a name of its own between its two halves.
-fn with_tables(alloc: Global, (before, after): (&str, &str), count: u32) -> Result<String, Fail> {
-    let mut text = plant_of(alloc, &[FIRST_TANK])?;
-    for number in 0..count {
-        let table = format!(in alloc; "{before}more_{number}{after}")?;
-        text.push_str(&table)?;
+/// Writes a piece for each number behind a text: the number between the two halves.
+fn push_numbered(
+    alloc: Global,
+    text: &mut String,
+    numbers: Range<u32>,
+    (before, after): (&str, &str),
+) -> Result<(), Fail> {
+    for number in numbers {
+        let piece = format!(in alloc; "{before}{number}{after}")?;
+        text.push_str(&piece)?;
     }
+    Ok(())
+}
+
+/// The worked text, and after it so many tables like this, each with a name of its own.
+fn with_tables(alloc: Global, table: (&str, &str), count: u32) -> Result<String, Fail> {
+    let mut text = plant_of(alloc, &[FIRST_TANK])?;
+    push_numbered(alloc, &mut text, 0..count, table)?;
     Ok(text)
 }
 
 fn with_pieces(alloc: Global, count: u32) -> Result<String, Fail> {
     let mut array = String::from_str(alloc, "flow = [[0, 10, 12]")?;
-    for tick in 1..count {
-        let piece = format!(in alloc; ", [{tick}, 10, 12]")?;
-        array.push_str(&piece)?;
-    }
+    push_numbered(alloc, &mut array, 1..count, (", [", ", 10, 12]"))?;
     array.push_str("]")?;
     plant_with(alloc, &[FIRST_TANK], &[("flow = [10, 12]", array.as_str())])
 }
 
+/// The rates of all points but the first are the same.
 fn with_rates(alloc: Global, count: u32) -> Result<String, Fail> {
-    let mut table = String::from_str(alloc, "jacket = \"v\"\nrate = [[0, 0]")?;
-    for point in 1..count {
-        let point = format!(in alloc; ", [{point}, {point}]")?;
-        table.push_str(&point)?;
-    }
-    table.push_str("]\nheat = 0\nua = 0\nk = 10000")?;
-    plant_with(
-        alloc,
-        &[FIRST_TANK],
-        &[("\"tank\"", "\"reactor\""), ("k = 10000", table.as_str())],
-    )
+    let mut keys = String::from_str(alloc, "jacket = \"v\"\nrate = [[0, 0]")?;
+    push_numbered(alloc, &mut keys, 1..count, (", [", ", 1]"))?;
+    keys.push_str("]\nheat = 0\nua = 0\nk = 10000")?;
+    let changes = [("\"tank\"", "\"reactor\""), ("k = 10000", keys.as_str())];
+    plant_with(alloc, &[FIRST_TANK], &changes)
 }
 
 /// A text with a comment behind it, of so many bytes in all.

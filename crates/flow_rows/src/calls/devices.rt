@@ -1,10 +1,11 @@
-//! Runs over words that are refused, and over devices that fail.
+//! Runs over devices that fail.
 
 use super::texts::{HEADER, NOTHING, OUTPUT, TRACE_HEADER, TRACE_WRITE_FAULT};
-use super::{Case, OUT_FAULT, READ_FAULT, REFUSED, RUN, WORDS};
+use super::{Case, OUT_FAULT, READ_FAULT, REFUSED, RUN, WORDS, try_cases};
 use crate::sources::Plant::Bytes;
 use crate::written::Written::{Steps, Text};
 use flow_edge::Status;
+use std::test::Fail;
 
 /// A trace that cannot be written.
 const TRACE_FAULT: Case = Case {
@@ -14,7 +15,7 @@ const TRACE_FAULT: Case = Case {
     ..RUN
 };
 
-pub static CASES: [Case; 19] = [
+static CASES: [Case; 12] = [
     Case {
         name: "a refusal that nobody hears",
         plant: Bytes(b""),
@@ -23,22 +24,6 @@ pub static CASES: [Case; 19] = [
         err: "",
         faults: (0, 0, 1),
         ..REFUSED
-    },
-    Case {
-        name: "no words",
-        words: &[],
-        ..WORDS
-    },
-    Case {
-        name: "another command",
-        words: &["relax"],
-        ..WORDS
-    },
-    Case {
-        name: "a word too many",
-        words: &["run", "x"],
-        err: "flowrelax: words refused at 2\n",
-        ..WORDS
     },
     Case {
         name: "words whose refusal nobody hears",
@@ -119,28 +104,9 @@ pub static CASES: [Case; 19] = [
         trace: Text(TRACE_HEADER),
         ..TRACE_FAULT
     },
-    Case {
-        name: "an option without its file",
-        words: &["run", "--journal"],
-        err: "flowrelax: words refused at 3\n",
-        ..WORDS
-    },
-    Case {
-        name: "a file without a name",
-        words: &["run", "--journal", ""],
-        err: "flowrelax: words refused at 3\n",
-        ..WORDS
-    },
-    Case {
-        name: "an option given twice",
-        words: &["run", "--journal", "a", "--journal", "b"],
-        err: "flowrelax: words refused at 4\n",
-        ..WORDS
-    },
-    Case {
-        name: "an option that a check has not",
-        words: &["check", "--journal", "a"],
-        err: "flowrelax: words refused at 2\n",
-        ..WORDS
-    },
 ];
+
+#[test]
+fn ends_each_call_as_it_should(rt: HostRuntime) -> Result<(), Fail> {
+    try_cases(&rt, rt.alloc(), &CASES)
+}

@@ -1,15 +1,16 @@
 //! Checks, and plants of several kinds of units.
 
 use super::texts::*;
-use super::{CHECK, Case, NO, OUT_FAULT, REFUSED, RUN, WORDS};
-use crate::sources::Plant;
+use super::{CHECK, Case, NO, OUT_FAULT, REFUSED, RUN, try_cases};
 use crate::sources::Plant::{One, Ring, Splitters, SplittersToo, With};
+use crate::sources::{MIXER_LOOP, Plant};
 use crate::written::Written::{Ends, Text, Ticks};
 use flow_edge::Status;
 use plant_texts::{MIXED, SPLITTER};
+use std::test::Fail;
 
 /// Plants whose ranks are written.
-pub static RANKED: [Case; 9] = [
+static RANKED: [Case; 9] = [
     Case {
         name: "the ranks of a tank",
         ..CHECK
@@ -61,8 +62,13 @@ pub static RANKED: [Case; 9] = [
     },
 ];
 
+#[test]
+fn writes_ranks_as_it_should(rt: HostRuntime) -> Result<(), Fail> {
+    try_cases(&rt, rt.alloc(), &RANKED)
+}
+
 /// Plants that are run, and plants and words that are refused.
-pub static CASES: [Case; 16] = [
+static CASES: [Case; 15] = [
     Case {
         name: "a splitter",
         plant: One(SPLITTER, &[]),
@@ -121,12 +127,6 @@ pub static CASES: [Case; 16] = [
         ..REFUSED
     },
     Case {
-        name: "a word too many to check",
-        words: &["check", "run"],
-        err: "flowrelax: words refused at 2\n",
-        ..WORDS
-    },
-    Case {
         name: "ranks that cannot be written",
         words: &["check"],
         failing_writes: &[2],
@@ -166,3 +166,8 @@ pub static CASES: [Case; 16] = [
         ..REFUSED
     },
 ];
+
+#[test]
+fn ends_calls_of_all_kinds_as_it_should(rt: HostRuntime) -> Result<(), Fail> {
+    try_cases(&rt, rt.alloc(), &CASES)
+}

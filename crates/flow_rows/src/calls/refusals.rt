@@ -1,11 +1,12 @@
 //! Runs of the worked text and of changes of it.
 
 use super::texts::{RING, RING_TICKS, STEADY_TICKS};
-use super::{Case, REFUSED, RUN};
+use super::{Case, REFUSED, RUN, try_cases};
 use crate::sources::Plant::{Bytes, Padded, With};
 use crate::written::Written::Ticks;
+use std::test::Fail;
 
-pub static CASES: [Case; 22] = [
+static CASES: [Case; 22] = [
     RUN,
     Case {
         name: "feeds of one number",
@@ -136,3 +137,8 @@ pub static CASES: [Case; 22] = [
         ..REFUSED
     },
 ];
+
+#[test]
+fn refuses_texts_as_it_should(rt: HostRuntime) -> Result<(), Fail> {
+    try_cases(&rt, rt.alloc(), &CASES)
+}

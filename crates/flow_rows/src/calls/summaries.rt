@@ -1,8 +1,9 @@
 //! Runs of `demo`, which reads no plant.
 
 use super::texts::NOTHING;
-use super::{Case, OUT_FAULT, RUN, WORDS};
+use super::{Case, OUT_FAULT, RUN, try_cases};
 use crate::written::Written::Text;
+use std::test::Fail;
 
 /// The figures are those that a program written by hand gives.
 const DEMO: Case = Case {
@@ -15,13 +16,7 @@ const DEMO: Case = Case {
     ..RUN
 };
 
-/// A number that is refused.
-const NUMBER: Case = Case {
-    err: "flowrelax: words refused at 2\n",
-    ..WORDS
-};
-
-pub static CASES: [Case; 9] = [
+static CASES: [Case; 3] = [
     Case {
         name: "a summary",
         ..DEMO
@@ -42,35 +37,9 @@ pub static CASES: [Case; 9] = [
         trace: NOTHING,
         ..OUT_FAULT
     },
-    Case {
-        name: "no number of stages",
-        words: &["demo"],
-        ..NUMBER
-    },
-    Case {
-        name: "no stages",
-        words: &["demo", "0"],
-        ..NUMBER
-    },
-    Case {
-        name: "a stage too many",
-        words: &["demo", "81"],
-        ..NUMBER
-    },
-    Case {
-        name: "a leading zero",
-        words: &["demo", "016"],
-        ..NUMBER
-    },
-    Case {
-        name: "a sign",
-        words: &["demo", "+16"],
-        ..NUMBER
-    },
-    Case {
-        name: "an option that a summary has not",
-        words: &["demo", "16", "--feeds", "a"],
-        err: "flowrelax: words refused at 3\n",
-        ..WORDS
-    },
 ];
+
+#[test]
+fn sums_up_plants_as_it_should(rt: HostRuntime) -> Result<(), Fail> {
+    try_cases(&rt, rt.alloc(), &CASES)
+}

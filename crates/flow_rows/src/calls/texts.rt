@@ -1,6 +1,6 @@
 //! Plants of the cases, and what the program writes of them.
 
-use crate::sources::{FIRST_TANK, Plant};
+use crate::sources::{FED_BACK, FIRST_TANK, Plant};
 use crate::written::Written;
 pub use crate::written::{HEADER, TRACE_HEADER};
 use plant_texts::{COLUMN, MIXER, RATES, REACTOR, SPLITTER, TANK, Unit};
@@ -151,15 +151,7 @@ pub const LOOP: Plant = Plant::Of(
     &[],
 );
 
-/// A mixer in the place of the tank, which its own splitter feeds.
-pub const MIXER_LOOP: Plant = Plant::Of(
-    &[FED_BACK, ("s", SPLITTER, &[("\"f\"", "\"t1.out\"")])],
-    &[],
-);
-
-const FED_BACK: Unit = ("t1", MIXER, &[("\"f\"]", "\"s.second\"]")]);
-
-/// The same through a tank.
+/// A mixer that its own splitter feeds through a tank.
 pub const MIXER_RECYCLE: Plant = Plant::Of(
     &[
         FED_BACK,

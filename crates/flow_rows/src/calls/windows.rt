@@ -1,10 +1,11 @@
 //! Runs of several windows, relaxed and stepped, and runs that stop at a band that is too wide.
 
 use super::texts::{FIRST_TICK, HEADER, NOTHING, STEADY_TICKS, TOO_WIDE, TRACE_HEADER};
-use super::{Case, OUT_FAULT, RUN, WORDS};
+use super::{Case, OUT_FAULT, RUN, try_cases};
 use crate::sources::Plant::With;
 use crate::written::Written::{Steps, Text, Ticks};
 use flow_edge::Status;
+use std::test::Fail;
 
 /// A level that may be 1 mL wide.
 const NARROW: (&str, &str) = ("[limits]", "[width]\nsignal = 1\n[limits]");
@@ -26,7 +27,7 @@ const DIRECT: Case = Case {
     ..RUN
 };
 
-pub static CASES: [Case; 13] = [
+static CASES: [Case; 12] = [
     Case {
         name: "windows of two ticks",
         plant: With(&[("window = 3", "window = 2")]),
@@ -104,10 +105,9 @@ pub static CASES: [Case; 13] = [
         trace: NOTHING,
         ..OUT_FAULT
     },
-    Case {
-        name: "an option that stepping has not",
-        words: &["direct", "--journal", "a"],
-        err: "flowrelax: words refused at 2\n",
-        ..WORDS
-    },
 ];
+
+#[test]
+fn makes_windows_as_it_should(rt: HostRuntime) -> Result<(), Fail> {
+    try_cases(&rt, rt.alloc(), &CASES)
+}

@@ -2,7 +2,7 @@
 
 use super::{Case, try_cases};
 use crate::sources::Plant::{Of, One, With};
-use crate::sources::{FIRST_TANK, SECOND_TANK};
+use crate::sources::{FED_BACK, FIRST_TANK, MIXER_LOOP, SECOND_TANK};
 use plant_texts::{MIXER, RATES, REACTOR, SPLITTER};
 use std::test::Fail;
 
@@ -123,20 +123,14 @@ static CASES: [Case; 25] = [
     },
     Case {
         name: "a mixer that is fed by its own splitter",
-        plant: Of(
-            &[
-                ("t1", MIXER, &[("\"f\"]", "\"s.second\"]")]),
-                ("s", SPLITTER, &[("\"f\"", "\"t1.out\"")]),
-            ],
-            &[],
-        ),
+        plant: MIXER_LOOP,
         refused: Some("P19 instant loop t1"),
     },
     Case {
         name: "a recycle through a tank",
         plant: Of(
             &[
-                ("t1", MIXER, &[("\"f\"]", "\"s.second\"]")]),
+                FED_BACK,
                 ("s", SPLITTER, &[("\"f\"", "\"t2.out\"")]),
                 SECOND_TANK,
             ],
