@@ -1,7 +1,7 @@
 //! Boards of the worked tank: its outflow is stream 2 and its level stream 3, behind the feeds.
 
-use crate::renewals::{LEVEL, OUTFLOW, WORKED_TANK, has_rows};
-use crate::windows::{plant_with_units, window_in};
+use crate::renewals::{LEVEL, OUTFLOW, has_rows, worked_tank};
+use crate::windows::window_in;
 use plant::Plant;
 use relax_core::{Board, StepFault, Stepped, inputs_for};
 use std::alloc::Global;
@@ -68,8 +68,7 @@ fn try_steps<R: Abort>(rt: &R, alloc: Global, plant: &Plant) -> Result<(), Fail>
 
 #[test]
 fn steps_narrow_or_change_nothing(rt: HostRuntime) -> Result<(), Fail> {
-    let plant = plant_with_units(rt.alloc(), &[WORKED_TANK])?;
-    try_steps(&rt, rt.alloc(), &plant)
+    try_steps(&rt, rt.alloc(), &worked_tank(rt.alloc())?)
 }
 
 /// The outflow and the level of a settled board, and the steps that made them.
@@ -96,7 +95,7 @@ fn settles<R: Abort>(rt: &R, alloc: Global, plant: &Plant) -> Result<(), Fail> {
 
 #[test]
 fn worked_tank_settles_in_two_steps(rt: HostRuntime) -> Result<(), Fail> {
-    let plant = plant_with_units(rt.alloc(), &[WORKED_TANK])?;
+    let plant = worked_tank(rt.alloc())?;
     assert_eq!(rt; plant.streams().len(), 4);
     settles(&rt, rt.alloc(), &plant)
 }

@@ -5,8 +5,8 @@ ghost use Rattle.std.specs.List.{range_with_len};
 ghost use Rattle.plant_streams.specs.Streams.{streams_of};
 ghost use Rattle.renewal.specs.Room.{AreOpened};
 
-use crate::renewals::{WORKED_TANK, Want, has_rows};
-use crate::windows::{plant_with_units, window_in};
+use crate::renewals::{Want, has_rows, worked_tank};
+use crate::windows::window_in;
 use feeds::FeedReader;
 use flow_edge::NoSource;
 use plant::Plant;
@@ -58,8 +58,7 @@ fn carries_the_tank<R: Abort>(rt: &R, alloc: Global, plant: &Plant) -> Result<()
 
 #[test]
 fn a_window_carries_on_its_last_states(rt: HostRuntime) -> Result<(), Fail> {
-    let plant = plant_with_units(rt.alloc(), &[WORKED_TANK])?;
-    carries_the_tank(&rt, rt.alloc(), &plant)
+    carries_the_tank(&rt, rt.alloc(), &worked_tank(rt.alloc())?)
 }
 
 /// The first feed of the plant at each tick.
@@ -90,6 +89,5 @@ fn reads_two_windows<R: Abort>(rt: &R, alloc: Global, plant: &Plant) -> Result<(
 
 #[test]
 fn feeds_are_read_one_window_after_another(rt: HostRuntime) -> Result<(), Fail> {
-    let plant = plant_with_units(rt.alloc(), &[WORKED_TANK])?;
-    reads_two_windows(&rt, rt.alloc(), &plant)
+    reads_two_windows(&rt, rt.alloc(), &worked_tank(rt.alloc())?)
 }

@@ -16,6 +16,11 @@ use tubes::Tube;
 /// It holds 1000 mL and lets out 10,000 ppm of them a tick.
 pub(crate) const WORKED_TANK: Unit = ("t", TANK, &[]);
 
+/// The plant of the worked tank.
+pub(crate) fn worked_tank(alloc: Global) -> Result<Plant, Fail> {
+    plant_with_units(alloc, &[WORKED_TANK])
+}
+
 const WORKED_MIXER: Unit = ("m", MIXER, &[]);
 
 /// The renewal of a unit from the tubes that its streams open with.
@@ -108,8 +113,7 @@ fn renews_the_tank<R: Abort>(rt: &R, alloc: Global, plant: &Plant) -> Result<(),
 
 #[test]
 fn renewal_of_the_worked_tank(rt: HostRuntime) -> Result<(), Fail> {
-    let plant = plant_with_units(rt.alloc(), &[WORKED_TANK])?;
-    renews_the_tank(&rt, rt.alloc(), &plant)
+    renews_the_tank(&rt, rt.alloc(), &worked_tank(rt.alloc())?)
 }
 
 /// Two of the feed's streams together, at each tick.
@@ -167,8 +171,7 @@ fn renews_from_less<R: Abort>(rt: &R, alloc: Global, plant: &Plant) -> Result<()
 
 #[test]
 fn renewal_from_a_narrower_tube(rt: HostRuntime) -> Result<(), Fail> {
-    let plant = plant_with_units(rt.alloc(), &[WORKED_TANK])?;
-    renews_from_less(&rt, rt.alloc(), &plant)
+    renews_from_less(&rt, rt.alloc(), &worked_tank(rt.alloc())?)
 }
 
 /// Writes a tube into the first input in place, where it has the shape.
@@ -211,7 +214,7 @@ fn tells_its_parts<R: Abort>(rt: &R, alloc: Global, plant: &Plant) -> Result<(),
 
 #[test]
 fn a_window_tells_what_it_is_made_of(rt: HostRuntime) -> Result<(), Fail> {
-    let plant = plant_with_units(rt.alloc(), &[WORKED_TANK])?;
+    let plant = worked_tank(rt.alloc())?;
     assert_eq!(rt; Carried::opening(rt.alloc(), &plant)?.into_vec().len(), 1);
     tells_its_parts(&rt, rt.alloc(), &plant)
 }
