@@ -1,5 +1,4 @@
-use Rattle.std.proofs.Common.{true, None, Ok, Err, refl, sym}
-use Rattle.window_accept.specs.declared.end.WindowEnd.TheVariants.{Finished, Feed, Wide}
+use Rattle.std.proofs.Common.{true, None, Ok, refl, sym}
 use Rattle.window_accept.specs.Session.{NextWindow}
 use Rattle.demo.specs.Following.{plain_feeding}
 use Rattle.demo.proofs.Passing.{not-finished, not-fed, not-wide}
@@ -7,29 +6,19 @@ use Rattle.demo.proofs.run_sums.next_window.Goals as goal
 
 pub unreachable-requires : goal.unreachable-requires
 unreachable-requires g c =
-    let reader = plain_feeding c.args.feeds.now in
-    let read = plain_feeding c.next_window.new.feeds in
-    let next : NextWindow true c.args.session.now c.next_window.new.self reader read (Err Finished) =
-    rw (sym c.in-Err-Finished.field-0-is) c.in-Err-Finished.ensures.next in
-    not-finished c.args.session.now c.next_window.new.self reader read c.requires.following c.requires.left next
+    not-finished c.args.session.now c.next_window.new.self (plain_feeding c.args.feeds.now) (plain_feeding c.next_window.new.feeds)
+    c.requires.following c.requires.left (rw (sym c.in-Err-Finished.field-0-is) c.in-Err-Finished.ensures.next)
 
 pub unreachable-requires-in-Err-Feed : goal.unreachable-requires-in-Err-Feed
 unreachable-requires-in-Err-Feed g c =
-    let reader = plain_feeding c.args.feeds.now in
-    let read = plain_feeding c.next_window.new.feeds in
-    let fault = c.in-Err-Feed.field-0-0 in
-    let next : NextWindow true c.args.session.now c.next_window.new.self reader read (Err (Feed fault)) =
-    rw (sym c.in-Err-Feed.field-0-is) c.in-Err-Feed.ensures.next in
-    not-fed c.args.session.now c.next_window.new.self reader read c.requires.following fault refl next
+    not-fed c.args.session.now c.next_window.new.self (plain_feeding c.args.feeds.now) (plain_feeding c.next_window.new.feeds)
+    c.requires.following c.in-Err-Feed.field-0-0 refl (rw (sym c.in-Err-Feed.field-0-is) c.in-Err-Feed.ensures.next)
 
 pub unreachable-requires-in-Err-Wide : goal.unreachable-requires-in-Err-Wide
 unreachable-requires-in-Err-Wide g c =
-    let reader = plain_feeding c.args.feeds.now in
-    let read = plain_feeding c.next_window.new.feeds in
-    let place = c.in-Err-Wide.field-0-0 in
-    let next : NextWindow true c.args.session.now c.next_window.new.self reader read (Err (Wide place)) =
-    rw (sym c.in-Err-Wide.field-0-is) c.in-Err-Wide.ensures.next in
-    not-wide c.args.session.now c.next_window.new.self reader read c.requires.following place c.requires.small.widths next
+    not-wide c.args.session.now c.next_window.new.self (plain_feeding c.args.feeds.now) (plain_feeding c.next_window.new.feeds)
+    c.requires.following c.in-Err-Wide.field-0-0 c.requires.small.widths
+    (rw (sym c.in-Err-Wide.field-0-is) c.in-Err-Wide.ensures.next)
 
 pub returns-in-Ok-clause-moved : goal.returns-in-Ok-clause-moved
 returns-in-Ok-clause-moved g c =
