@@ -39,35 +39,34 @@ fn has_channel(plant: &Plant, row: &Row, stream: u32, channel: u32) -> bool
     (channel as usize) < row.stream(stream).len()
 }
 
-/// The band of a channel and its limit.
-fn band_at(plant: &Plant, row: &Row, stream: u32, channel: u32) -> Option<(Band, Band)>
+/// The low and the high end of a band.
+type Ends = (i64, i64);
+
+fn ends_of(band: Band) -> Ends {
+    (band.lo, band.hi)
+}
+
+/// The ends of a channel's band, and of its limit.
+fn ends_at(plant: &Plant, row: &Row, stream: u32, channel: u32) -> Option<(Ends, Ends)>
     requires { IsRow plant.now row.now }
 {
     if !has_channel(plant, row, stream, channel) {
         return None;
     }
-    Some((row.at(stream, channel), plant.limit(stream, channel)))
+    let band = row.at(stream, channel);
+    let limit = plant.limit(stream, channel);
+    Some((ends_of(band), ends_of(limit)))
 }
 
 /// The ends that a channel of this stream has to have.
-type Want = (u32, u32, (i64, i64));
+type Want = (u32, u32, Ends);
 
 /// Compares bands of a row.
 fn have_bands<R: Abort>(rt: &R, plant: &Plant, row: &Row, wants: &[Want])
     requires { IsRow plant.now row.now }
 {
     for (stream, channel, ends) in wants {
-        let found = band_at(plant, row, *stream, *channel).map(|(band, _)| (band.lo, band.hi));
-        assert_eq!(rt; found, Some(*ends), "at {stream}, {channel}");
-    }
-}
-
-/// Compares limits of a row's channels.
-fn have_limits<R: Abort>(rt: &R, plant: &Plant, row: &Row, wants: &[Want])
-    requires { IsRow plant.now row.now }
-{
-    for (stream, channel, ends) in wants {
-        let found = band_at(plant, row, *stream, *channel).map(|(_, limit)| (limit.lo, limit.hi));
+        let found = ends_at(plant, row, *stream, *channel).map(|(band, _)| band);
         assert_eq!(rt; found, Some(*ends), "at {stream}, {channel}");
     }
 }
@@ -94,17 +93,39 @@ fn set_inside(
     Ok(())
 }
 
+/// Compares bands of the row with which the plant of a unit opens, and their limits.
+fn opens_at<R: Abort>(rt: &R, alloc: Global, unit: Unit, wants: &[Want]) -> Result<(), Fail> {
+    let plant = plant_of(alloc, unit)?;
+    let row = plant.row(alloc)?;
+    for (stream, channel, ends) in wants {
+        let found = ends_at(&plant, &row, *stream, *channel);
+        assert_eq!(rt; found, Some((*ends, *ends)), "at {stream}, {channel}");
+    }
+    Ok(())
+}
+
+/// The plant's limits, and those of a unit that has its own.
+const PLANT_LIMITS: [Want; 3] = [
+    (0, 0, (0, 100)),
+    (2, 1, (0, 1_000_000)),
+    (3, 0, (0, 2_000_000)),
+];
+
+const OWN_LIMITS: [Want; 4] = [
+    (0, 0, (0, 100)),
+    (2, 0, (5, 50)),
+    (2, 2, (0, 1_000_000)),
+    (3, 0, (0, 2_000_000)),
+];
+
 #[test]
 fn an_opening_row_stands_at_the_limits(rt: HostRuntime) -> Result<(), Fail> {
-    let plant = plant_of(rt.alloc(), WORKED_TANK)?;
-    let row = plant.row(rt.alloc())?;
-    let wants = [
-        (0, 0, (0, 100)),
-        (2, 1, (0, 1_000_000)),
-        (3, 0, (0, 2_000_000)),
-    ];
-    have_bands(&rt, &plant, &row, &wants);
-    Ok(())
+    opens_at(&rt, rt.alloc(), WORKED_TANK, &PLANT_LIMITS)
+}
+
+#[test]
+fn limits_are_the_units_own_before_the_plants(rt: HostRuntime) -> Result<(), Fail> {
+    opens_at(&rt, rt.alloc(), NARROW_TANK, &OWN_LIMITS)
 }
 
 #[test]
@@ -123,30 +144,16 @@ fn a_band_is_set_in_its_place(rt: HostRuntime) -> Result<(), Fail> {
     Ok(())
 }
 
-#[test]
-fn limits_are_the_units_own_before_the_plants(rt: HostRuntime) -> Result<(), Fail> {
-    let plant = plant_of(rt.alloc(), NARROW_TANK)?;
-    let row = plant.row(rt.alloc())?;
-    let wants = [
-        (0, 0, (0, 100)),
-        (2, 0, (5, 50)),
-        (2, 2, (0, 1_000_000)),
-        (3, 0, (0, 2_000_000)),
-    ];
-    have_limits(&rt, &plant, &row, &wants);
-    Ok(())
-}
-
 /// The flow, the conc and the temp of the outflow, and the level, tick by tick. From the second tick on, 10 to 12 mL at
 /// 100 mg/L have taken the place of as many of some 1000 mL.
-const SHOWN: [[(i64, i64); 4]; 3] = [
+const SHOWN: [[Ends; 4]; 3] = [
     [(10, 10), (0, 0), (300_000, 300_000), (1_000, 1_000)],
     [(10, 10), (1, 1), (300_000, 300_000), (1_000, 1_002)],
     [(10, 10), (1, 2), (300_000, 300_000), (1_000, 1_004)],
 ];
 
 /// Makes the tick of this number, and compares what came of it.
-fn shows_tick<R: Abort>(rt: &R, plant: &Plant, row: &mut Row, tick: u32, want: [(i64, i64); 4])
+fn shows_tick<R: Abort>(rt: &R, plant: &Plant, row: &mut Row, tick: u32, want: [Ends; 4])
     requires { IsRow plant.now row.old }
     ensures { IsRow plant.now row.new }
 {
