@@ -14,7 +14,6 @@ pub mod Ends
 pub mod AtWork
 pub mod Causes
 pub mod Only
-pub mod PlantRows
 pub mod Channels
 pub mod RunRows
 pub mod Stopping

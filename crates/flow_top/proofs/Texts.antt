@@ -1,6 +1,6 @@
 -- The texts of a window, from what was made of it.
 use Rattle.std.proofs.Common.{◌≡◌, ◌∙◌, ◌⊎◌, inl, inr, ℕ, zero, suc, ◌+◌, ◌-◌, ◌*◌, ◌<◌, ◌≤◌, min, List, [], ◌∷◌, length, slice_index_or, refl, sym, ap, subst, arith}
-use Rattle.std.proofs.Common.{Bool, true, false, Option, Some, None, ℤ, Result, Ok, Err}
+use Rattle.std.proofs.Common.{Bool, true, false, Option, Some, None, ℤ, Result, Ok, Err, IsErrAnd}
 use Rattle.std.proofs.lemmas.List.{length-map}
 use Rattle.quant.specs.Interval.{Interval}
 use Rattle.flow_edge.specs.Faults.{Rose}
@@ -19,6 +19,7 @@ use Rattle.report.specs.Output.{labels_of, output_rows}
 use Rattle.window_accept.specs.declared.wide.TooWide.{TooWide}
 use Rattle.window_accept.specs.declared.end.WindowEnd.{WindowEnd}
 use Rattle.window_accept.specs.declared.end.WindowEnd.TheVariants.{Wide}
+use Rattle.window_accept.specs.declared.end.WindowEnd.TheVariants as window_end
 use Rattle.window_accept.specs.Wide.{asked_of, is_signal, IsTooWide, IsFirstWide}
 use Rattle.window_accept.specs.Session.{SessionOf, next_ticks, next_plan, bands_of_plan, IsReady, IsAlong, IsMadeBy, HasRunAt, NextWindow}
 use Rattle.window_accept.specs.Session as session
@@ -26,12 +27,14 @@ use Rattle.flow_top.specs.declared.fault.End.{End}
 use Rattle.flow_top.specs.declared.fault.End.TheVariants.{Stopped, NoMemory}
 use Rattle.flow_top.specs.declared.words.Command.{Command}
 use Rattle.flow_top.specs.declared.words.Command.TheVariants.{Run, Direct, Check, Demo}
-use Rattle.flow_top.specs.declared.windows.Texts.{Texts}
+use Rattle.flow_top.specs.declared.making.Texts.{Texts}
 use Rattle.flow_top.specs.Words.{writes_trace}
 use Rattle.flow_top.specs.Faults.{fault_of_feeds, stop_by}
 use Rattle.flow_top.specs.WindowsCourse.{bands_by, first_tick, ticks_in, end_of, window_rows, wide_fault, refused, wide}
-use Rattle.flow_top.specs.Steps.{AreSteps, AreTexts, steps_text, AreTextsOf, HasMoved, IsReadWith, WritesBy, TextsEnded, end_by_feeds}
-use Rattle.flow_top.proofs.PlantRows.{label_of, rows-same}
+use Rattle.flow_top.specs.Steps.{AreSteps, AreTexts, steps_text, AreTextsOf, HasMoved, IsReadWith, WritesBy, TextsEnded, end_by_feeds, NextTexts}
+use Rattle.stepping.specs.NextRows.{NextRows}
+use Rattle.report.proofs.Labels.{label_of}
+use Rattle.report.proofs.Ticks.{rows-same}
 use Rattle.flow_top.proofs.Refusals.{record-refused}
 
 one-more : (k window : ℕ) → (k + 1) * window ≡ k * window + window
@@ -202,3 +205,43 @@ same-parts relaxes old new reader read result (session.unfed fault going asks ot
 same-parts relaxes old new reader read result (session.wide feeds place going asks first e) = ap (λ (s : SessionOf). s.parts) e
 same-parts relaxes old new reader read result (session.starved unended asks e) = ap (λ (s : SessionOf). s.parts) e
 same-parts relaxes old new reader read result (session.again end ended still e) = ap (λ (s : SessionOf). s.parts) e
+
+-- what was answered for the texts of a window
+module _ (relaxes : Bool) (w : ℕ) (old new : SessionOf) (reader read : Feeding) where
+  -- the window was asked for
+  pub asked-for : (result : Result Texts WindowEnd) → NextTexts relaxes w old new reader read result →
+      (answer : Result WindowOf WindowEnd) × NextWindow relaxes old new reader read answer
+  asked-for (Ok texts) next = (Ok next.0, next.1)
+  asked-for (Err window_end.NoMemory) next = next
+  asked-for (Err window_end.Finished) next = (Err window_end.Finished, next)
+  asked-for (Err (window_end.Feed fault)) next = (Err (window_end.Feed fault), next)
+  asked-for (Err (window_end.Wide place)) next = (Err (window_end.Wide place), next)
+
+  -- and there is none
+  pub none-made : (end : WindowEnd) → NextWindow relaxes old new reader read (Err end) → NextTexts relaxes w old new reader read (Err end)
+  none-made window_end.NoMemory next = (Err window_end.NoMemory, next)
+  none-made window_end.Finished next = next
+  none-made (window_end.Feed fault) next = next
+  none-made (window_end.Wide place) next = next
+
+  -- or memory ran out behind it
+  pub starved-of : (window : WindowOf) (result : Result Texts WindowEnd) → IsErrAnd result (λ end. end ≡ window_end.NoMemory) →
+      NextWindow relaxes old new reader read (Ok window) → NextTexts relaxes w old new reader read result
+  starved-of window (Ok texts) e next = absurd e
+  starved-of window (Err end) e next =
+      subst (λ (end : WindowEnd). NextTexts relaxes w old new reader read (Err end)) (sym e) (Ok window, next)
+
+  -- or its texts were made
+  pub texts-made : (window : WindowOf) (texts : Texts) (parts : FileParts) → parts ≡ new.parts →
+      NextWindow relaxes old new reader read (Ok window) → AreTextsOf relaxes parts w window texts →
+      NextTexts relaxes w old new reader read (Ok texts)
+  texts-made window texts parts e next are = (
+    window,
+    next,
+    subst (λ (parts : FileParts). AreTextsOf relaxes parts w window texts) (e ∙ same-parts relaxes old new reader read (Ok window) next) are,
+  )
+
+-- where it was stepped, there are no steps
+pub rows-made : (w : ℕ) (old new : SessionOf) (reader read : Feeding) (rows : List ℕ) → NextRows old new reader read (Ok rows) →
+    NextTexts false w old new reader read (Ok (record { rows = rows; steps = None }))
+rows-made w old new reader read rows next = (next.0, next.1, record { rows_are = next.2; steps_are = refl })

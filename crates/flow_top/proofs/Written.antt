@@ -20,7 +20,7 @@ use Rattle.flow_top.specs.WindowsCourse.{traced_in, first_tick, IsWindowCount, I
 use Rattle.flow_top.specs.Uses.{SourceUse, Sinks}
 use Rattle.flow_top.specs.Ended.{WorkEnded, through, unread, broken, within, course_end, Stood, BrokeOff}
 use Rattle.flow_top.specs.Steps.{PairEnded, AreCounted, header_of_steps, WritesBy, AreSteps, AreTexts, IsOpened, IsBefore, HasMoved, IsReadWith, HasTexts, IsUnread, TextsEnded}
-use Rattle.flow_top.specs.declared.windows.Texts.{Texts}
+use Rattle.flow_top.specs.declared.making.Texts.{Texts}
 use Rattle.flow_top.proofs.Courses.{AreFound, AreOne, windows-exist, began, stops-there, same-stop, compare_le, written-full, run-header}
 use Rattle.flow_top.proofs.RunRows.{counted}
 use Rattle.flow_top.proofs.Pairs.{both_sinks, IsNext, StepsFor, header_for, pair-memory, opened, opened-broke, went-on, went-broke}

@@ -13,7 +13,9 @@ use Rattle.report.specs.Output.{output_rows}
 use Rattle.report.specs.Trace.{names_of, trace_rows}
 use Rattle.report.specs.declared.fault.TopFault.{TopFault}
 use Rattle.report.specs.declared.fault.TopFault.TheVariants.{ReadPlant, ReadExtra, WriteOut, WriteTrace}
-use Rattle.window_accept.specs.Session.{SessionOf, IsReady, IsAlong}
+use Rattle.window_accept.specs.Session.{SessionOf, IsReady, IsAlong, NextWindow}
+use Rattle.window_accept.specs.declared.end.WindowEnd.{WindowEnd}
+use Rattle.window_accept.specs.declared.end.WindowEnd.TheVariants as window_end
 use Rattle.flow_top.specs.declared.words.Command.{Command}
 use Rattle.plant_gen.specs.Generated.{longest_train}
 use Rattle.flow_top.specs.declared.words.Command.TheVariants.{Run, Direct, Check, Demo}
@@ -23,7 +25,7 @@ use Rattle.flow_top.specs.declared.fault.End.{End}
 use Rattle.flow_top.specs.declared.fault.End.TheVariants.{Stopped, NoMemory}
 use Rattle.flow_top.specs.declared.fault.Unfit.{Unfit}
 use Rattle.flow_top.specs.declared.fault.Unfit.TheVariants as unfit
-use Rattle.flow_top.specs.declared.windows.Texts.{Texts}
+use Rattle.flow_top.specs.declared.making.Texts.{Texts}
 use Rattle.flow_top.specs.Words.{reads_records}
 use Rattle.flow_top.specs.Faults.{stop_by}
 use Rattle.flow_top.specs.Judged.{Judgement}
@@ -134,6 +136,15 @@ steps_text false parts w window = None
 pub record AreTextsOf (relaxed : Bool) (parts : FileParts) (w : ℕ) (window : WindowOf) (texts : Texts) : Type 0 where
   pub rows_are : texts.rows ≡ output_rows parts window
   pub steps_are : texts.steps ≡ steps_text relaxed parts w window
+
+-- what was answered for the texts of a session's next window, which has this number: those of the window; or that memory ran out, be it
+-- before the window was made or behind; or why there is no window
+abbrev pub NextTexts : Bool → ℕ → SessionOf → SessionOf → Feeding → Feeding → Result Texts WindowEnd → Type 0
+NextTexts relaxes w old new reader read (Ok texts) =
+    (window : WindowOf) × NextWindow relaxes old new reader read (Ok window) × AreTextsOf relaxes old.parts w window texts
+NextTexts relaxes w old new reader read (Err window_end.NoMemory) =
+    (answer : Result WindowOf WindowEnd) × NextWindow relaxes old new reader read answer
+NextTexts relaxes w old new reader read (Err end) = NextWindow relaxes old new reader read (Err end)
 
 -- a reader that was opened for a plant, and asked for no window yet
 pub record IsOpened (parts : FileParts) (reader : ReaderOf) : Type 0 where

@@ -7,6 +7,7 @@ ghost use Rattle.flow_top.specs.Steps.{WritesBy, RequestEnded};
 ghost use Rattle.flow_top.specs.Uses.{source_use, sinks_use};
 
 use crate::fault::End;
+use crate::making::{MakesTexts, Relaxed};
 use crate::windows::write_windows;
 use crate::words::Request;
 use feeds::FeedReader;
@@ -16,10 +17,10 @@ use relax_core::NoChaos;
 use std::alloc::Global;
 use std::thread::Threads;
 use stepping::Stepper;
-use window_accept::{Relaxing, Session, Windows};
+use window_accept::Session;
 
 /// Writes the windows of a plant by the records of a source, where the request asks for them. Else the source is not touched.
-fn write_fed<R: Threads + Sync, W: Windows, E: Source, O: Sink, T: Sink>(
+fn write_fed<R: Threads + Sync, W: MakesTexts, E: Source, O: Sink, T: Sink>(
     rt: &R,
     alloc: Global,
     request: Request,
@@ -61,7 +62,7 @@ pub fn write_run<R: Threads + Sync, E: Source, O: Sink, T: Sink>(
     ensures { RequestEnded request plant (source_use E.left E.faults extra.old extra.new)
         (sinks_use O.given O.faults out.old out.new T.given T.faults trace.old trace.new) result }
 {
-    let mut windows = Relaxing::new(Session::open(alloc, plant)?, NoChaos::new());
+    let mut windows = Relaxed::new(Session::open(alloc, plant)?, NoChaos::new());
     write_fed(rt, alloc, request, &mut windows, extra, out, trace)
 }
 

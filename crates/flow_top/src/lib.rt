@@ -5,6 +5,7 @@ mod check;
 mod commands;
 mod fault;
 mod laws;
+mod making;
 mod named_files;
 mod pieces;
 mod plant_text;

@@ -4,7 +4,6 @@ ghost use Rattle.std.specs.Prelude.{◌≡◌, ◌⊎◌, ◌<◌, ◌≤◌, �
 ghost use Rattle.std.specs.Option.{option_map};
 ghost use Rattle.plant_streams.specs.Streams.{streams_of};
 ghost use Rattle.tables.specs.Output.{channels};
-ghost use Rattle.relax_core.specs.Settled.{IsWindow};
 ghost use Rattle.feeds.specs.ReaderOf.{feeding};
 ghost use Rattle.feeds.specs.Standing.{Stands};
 ghost use Rattle.window_accept.specs.Wide.{is_signal};
@@ -12,35 +11,28 @@ ghost use Rattle.window_accept.specs.Session.{opening_session, IsAlong};
 ghost use Rattle.flow_top.specs.declared.fault.End.TheVariants.{Stopped, NoMemory};
 ghost use Rattle.flow_top.specs.Faults.{stop_by, fault_of_feeds};
 ghost use Rattle.flow_top.specs.WindowsCourse.{first_tick, wide_fault, IsWindowCount};
-ghost use Rattle.flow_top.specs.Steps.{header_of_steps, WritesBy, AreTextsOf, IsOpened, IsBefore, HasMoved, end_by_feeds};
+ghost use Rattle.flow_top.specs.Steps.{header_of_steps, WritesBy, IsOpened, IsBefore, HasMoved, end_by_feeds};
 ghost use Rattle.flow_top.specs.Steps.{TextsEnded, PairEnded, AreCounted};
 ghost use Rattle.flow_top.specs.Ended.{WorkEnded, IsBlamed};
 ghost use Rattle.flow_top.specs.Uses.{Sinks, source_use, sinks_use};
 
 use crate::fault::{End, fault_of_feeds};
+use crate::making::{MakesTexts, Texts};
 use crate::pieces::write_pair;
 use crate::stops::stop_by;
-use crate::words::{Command, writes_trace};
+use crate::words::Command;
 use feeds::{FeedFault, FeedReader};
 use flow_edge::{Sink, Source};
 use parts::Parts;
 use plant::Plant;
 use plant_names::Text;
-use relax_core::Window;
-use report::{TopFault, channel_names, output_header, trace_header, trace_rows, tube_rows};
+use report::{TopFault, channel_names, output_header, trace_header};
 use std::alloc::{AllocError, Global};
 use std::thread::Threads;
 use window_accept::{
-    TooWide, WindowEnd, Windows, first_wide_places_are_one, readers_stay_ready,
-    sessions_follow_the_run, wide_places_are_found,
+    TooWide, WindowEnd, first_wide_places_are_one, readers_stay_ready, sessions_follow_the_run,
+    wide_places_are_found,
 };
-
-/// The texts of a window: for the output and, where it was relaxed, for the trace.
-#[derive(Drop)]
-pub(crate) struct Texts {
-    rows: Text,
-    steps: Option<Text>,
-}
 
 /// The header of the trace, where the command writes one.
 fn header_of_steps(command: Command) -> Option<&'static [u8]>
@@ -57,26 +49,6 @@ fn window_count(parts: &Parts) -> u32
     ensures { IsWindowCount parts.now result }
 {
     parts.ticks.div_ceil(parts.window)
-}
-
-/// The texts of the window of a plant with this number.
-fn window_texts(
-    alloc: Global,
-    relaxed: bool,
-    plant: &Plant,
-    index: u32,
-    window: &Window,
-) -> Result<Texts, AllocError>
-    requires { IsWindow plant.now window.now }
-    ensures { IfOk result (λ texts. AreTextsOf relaxed plant.now index window.now texts) }
-{
-    let rows = tube_rows(alloc, plant, window)?;
-    let steps = if relaxed {
-        Some(trace_rows(alloc, plant, index, window)?)
-    } else {
-        None
-    };
-    Ok(Texts { rows, steps })
 }
 
 /// The fault of a band that is wider than was asked, with the names of its stream and channel.
@@ -119,7 +91,7 @@ fn end_by_feeds(command: Command, fault: FeedFault) -> End
 }
 
 /// The texts of the next window, or why the command ends.
-fn next_texts<R: Threads + Sync, W: Windows, E: Source>(
+fn next_texts<R: Threads + Sync, W: MakesTexts, E: Source>(
     rt: &R,
     alloc: Global,
     command: Command,
@@ -142,9 +114,8 @@ fn next_texts<R: Threads + Sync, W: Windows, E: Source>(
 {
     sessions_follow_the_run();
     readers_stay_ready();
-    let relaxed = writes_trace(command);
-    match windows.next_window(rt, alloc, feeds, extra) {
-        Ok(window) => Ok(window_texts(alloc, relaxed, windows.plant(), index, &window)?),
+    match windows.next_texts(rt, alloc, index, feeds, extra) {
+        Ok(texts) => Ok(texts),
         Err(WindowEnd::Wide { place }) => Err(end_by_width(alloc, command, windows.plant(), place)),
         Err(WindowEnd::NoMemory) => Err(End::NoMemory),
         Err(WindowEnd::Finished) => unreachable!(),
@@ -169,7 +140,7 @@ fn write_texts<O: Sink, T: Sink>(
 }
 
 /// Writes the headers of output and trace, and then the rows of each window and those of its steps.
-pub fn write_windows<R: Threads + Sync, W: Windows, E: Source, O: Sink, T: Sink>(
+pub fn write_windows<R: Threads + Sync, W: MakesTexts, E: Source, O: Sink, T: Sink>(
     rt: &R,
     alloc: Global,
     command: Command,

@@ -5,7 +5,7 @@ use Rattle.flow_top.proofs.commands.write_fed.Goals as goal
 
 pub returns-in_ok-feeds-in-Some : goal.returns-in_ok-feeds-in-Some
 returns-in_ok-feeds-in-Some g c =
-    let session = g.W.Windows.session c.args.windows.now in
+    let session = g.W.MakesTexts.session c.args.windows.now in
     let left = g.E.Source.left c.args.extra.now in
     let faults = g.E.Source.faults c.args.extra.now in
     let reader = c.in_ok-feeds-in-Some.feeds in
@@ -17,7 +17,7 @@ returns-in_ok-feeds-in-Some g c =
 
 pub returns-in_ok-feeds-in-None : goal.returns-in_ok-feeds-in-None
 returns-in_ok-feeds-in-None g c =
-    unrecorded c.args.request (g.W.Windows.session c.args.windows.now).parts _ _ _ c.write_windows-in-None.result c.in-None.is unfailed
+    unrecorded c.args.request (g.W.MakesTexts.session c.args.windows.now).parts _ _ _ c.write_windows-in-None.result c.in-None.is unfailed
     (record { text = refl; count = refl })
     (c.write_windows-in-None.ensures.ended None (ap (λ (r : ReaderOf). r.records) c.in_ok-feeds-in-None.ensures.plain))
     c.write_windows-in-None.ensures.blamed

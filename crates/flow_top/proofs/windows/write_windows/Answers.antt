@@ -10,15 +10,15 @@ use Rattle.flow_top.proofs.windows.write_windows.Goals as goal
 -- src/windows.rt:201:5
 pub returns-in_err-write_pair-clause-ended : goal.returns-in_err-write_pair-clause-ended
 returns-in_err-write_pair-clause-ended g c records stands =
-    open-broke c.args.command g.W.Windows.relaxes _ c.plant.ensures.session.plant c.requires.writes c.first_wide_places_are_one.ensures
+    open-broke c.args.command g.W.MakesTexts.relaxes _ c.plant.ensures.session.plant c.requires.writes c.first_wide_places_are_one.ensures
     c.wide_places_are_found.ensures _ _ c.from_residual.result c.in_err-write_pair.field-0.0 c.from_residual.ensures.1
     (rw (c.output_header.ensures, c.header_of_steps.ensures) at c.in_err-write_pair.ensures.ended) records
 
 pub loop-index-init : goal.loop-index-init
 loop-index-init g c =
-    let old = g.W.Windows.session c.args.windows.now in
+    let old = g.W.MakesTexts.session c.args.windows.now in
     let parts = c.parts.ensures.parts ∙ c.plant.ensures.plant in
-    open-written c.args.command g.W.Windows.relaxes old.parts c.plant.ensures.session.plant c.requires.writes
+    open-written c.args.command g.W.MakesTexts.relaxes old.parts c.plant.ensures.session.plant c.requires.writes
     c.first_wide_places_are_one.ensures c.wide_places_are_found.ensures c.window_count-count.result old
     (feeding g.E.Source.left g.E.Source.faults c.args.feeds.now c.args.extra.now) _ refl
     c.plant.ensures.session c.requires.opening c.requires.reader (c.sessions_follow_the_run.ensures.opening old.parts)
@@ -37,19 +37,19 @@ next_texts-requires-clause-more g c κs within =
 
 pub returns-in_err-texts-clause-ended : goal.returns-in_err-texts-clause-ended
 returns-in_err-texts-clause-ended g c records stands =
-    texts-broke c.args.command g.W.Windows.relaxes _ c.plant.ensures.session.plant c.requires.writes
+    texts-broke c.args.command g.W.MakesTexts.relaxes _ c.plant.ensures.session.plant c.requires.writes
     c.first_wide_places_are_one.ensures c.wide_places_are_found.ensures c.window_count-count.result c.loop-index.index
-    c.loop-index-test.true (g.W.Windows.session c.loop-index.windows) (feeding g.E.Source.left g.E.Source.faults c.args.feeds.now c.args.extra.now)
+    c.loop-index-test.true (g.W.MakesTexts.session c.loop-index.windows) (feeding g.E.Source.left g.E.Source.faults c.args.feeds.now c.args.extra.now)
     (feeding g.E.Source.left g.E.Source.faults c.loop-index.feeds c.loop-index.extra) _ c.loop-index.invariant _ c.from_residual-in_err-texts.result c.in_err-texts.field-0.0
-    (g.W.Windows.session c.next_texts.new.windows) (feeding g.E.Source.left g.E.Source.faults c.next_texts.new.feeds c.next_texts.new.extra) refl refl
+    (g.W.MakesTexts.session c.next_texts.new.windows) (feeding g.E.Source.left g.E.Source.faults c.next_texts.new.feeds c.next_texts.new.extra) refl refl
     c.from_residual-in_err-texts.ensures.1 c.in_err-texts.ensures.texts records stands
 
 pub returns-in_err-write_texts-clause-ended : goal.returns-in_err-write_texts-clause-ended
 returns-in_err-write_texts-clause-ended g c records stands =
-    pair-stopped c.args.command g.W.Windows.relaxes _ c.plant.ensures.session.plant c.requires.writes
+    pair-stopped c.args.command g.W.MakesTexts.relaxes _ c.plant.ensures.session.plant c.requires.writes
     c.first_wide_places_are_one.ensures c.wide_places_are_found.ensures c.window_count-count.result c.loop-index.index
-    c.loop-index-test.true (g.W.Windows.session c.loop-index.windows) (feeding g.E.Source.left g.E.Source.faults c.args.feeds.now c.args.extra.now)
-    (feeding g.E.Source.left g.E.Source.faults c.loop-index.feeds c.loop-index.extra) _ c.loop-index.invariant _ (g.W.Windows.session c.next_texts.new.windows)
+    c.loop-index-test.true (g.W.MakesTexts.session c.loop-index.windows) (feeding g.E.Source.left g.E.Source.faults c.args.feeds.now c.args.extra.now)
+    (feeding g.E.Source.left g.E.Source.faults c.loop-index.feeds c.loop-index.extra) _ c.loop-index.invariant _ (g.W.MakesTexts.session c.next_texts.new.windows)
     (feeding g.E.Source.left g.E.Source.faults c.next_texts.new.feeds c.next_texts.new.extra) c.in_ok-texts.ensures.moved c.in_ok-texts.ensures.texts _
     (record { text = refl; count = refl }) (record { text = refl; count = refl }) _ c.from_residual-in_err-write_texts.result
     c.in_err-write_texts.field-0.0 c.from_residual-in_err-write_texts.ensures.1 c.in_err-write_texts.ensures.ended records stands
@@ -58,10 +58,10 @@ pub loop-index-preserved : goal.loop-index-preserved
 loop-index-preserved g c =
     let so = c.loop-index.invariant in
     let more = c.in_ok-write_texts.ensures.counted in
-    pair-written c.args.command g.W.Windows.relaxes _ c.plant.ensures.session.plant c.requires.writes
+    pair-written c.args.command g.W.MakesTexts.relaxes _ c.plant.ensures.session.plant c.requires.writes
     c.first_wide_places_are_one.ensures c.wide_places_are_found.ensures c.window_count-count.result c.loop-index.index
-    c.loop-index-test.true (g.W.Windows.session c.loop-index.windows) (feeding g.E.Source.left g.E.Source.faults c.args.feeds.now c.args.extra.now)
-    (feeding g.E.Source.left g.E.Source.faults c.loop-index.feeds c.loop-index.extra) _ so _ (g.W.Windows.session c.next_texts.new.windows)
+    c.loop-index-test.true (g.W.MakesTexts.session c.loop-index.windows) (feeding g.E.Source.left g.E.Source.faults c.args.feeds.now c.args.extra.now)
+    (feeding g.E.Source.left g.E.Source.faults c.loop-index.feeds c.loop-index.extra) _ so _ (g.W.MakesTexts.session c.next_texts.new.windows)
     (feeding g.E.Source.left g.E.Source.faults c.next_texts.new.feeds c.next_texts.new.extra) c.in_ok-texts.ensures.moved c.in_ok-texts.ensures.texts _
     (record { text = refl; count = refl }) (record { text = refl; count = refl }) c.in_ok-texts.ensures.counted
     (record { out = omega (arith, so.counted_sinks.out, more.out); trace = omega (arith, so.counted_sinks.trace, more.trace) })
@@ -69,9 +69,9 @@ loop-index-preserved g c =
 
 pub returns-clause-ended : goal.returns-clause-ended
 returns-clause-ended g c records stands =
-    all-written c.args.command g.W.Windows.relaxes _ c.plant.ensures.session.plant c.requires.writes
+    all-written c.args.command g.W.MakesTexts.relaxes _ c.plant.ensures.session.plant c.requires.writes
     c.first_wide_places_are_one.ensures c.wide_places_are_found.ensures c.window_count-count.result c.loop-index.index
-    (g.W.Windows.session c.loop-index.windows) (feeding g.E.Source.left g.E.Source.faults c.args.feeds.now c.args.extra.now)
+    (g.W.MakesTexts.session c.loop-index.windows) (feeding g.E.Source.left g.E.Source.faults c.args.feeds.now c.args.extra.now)
     (feeding g.E.Source.left g.E.Source.faults c.loop-index.feeds c.loop-index.extra) _ _
     (grind (arith, c.loop-index.auto.index-end, c.loop-index-test.false)) refl c.loop-index.invariant records stands
 
