@@ -1,13 +1,8 @@
 //! The versions of one stream: the newest, and what each step replaced.
 
 ghost use Rattle.std.specs.Prelude.{◌≡◌, ◌<◌, ◌≤◌, ◌++◌, List, [], ◌∷◌, length, IfOk, OnOk, OnErr};
-ghost use Rattle.std.specs.Prelude.{slice_index_or};
 ghost use Rattle.quant.specs.Interval.{Interval};
-ghost use Rattle.relaxation.specs.Window.{Window};
-ghost use Rattle.relaxation.specs.Tube.{HasNumbers, meet};
-ghost use Rattle.plant_streams.specs.Streams.{streams_of};
 ghost use Rattle.tubes.specs.Shape.{HasShapeOf};
-ghost use Rattle.renewal.specs.Plan.{window_of};
 ghost use Rattle.relax_core.specs.Rooms.{AreSameTicks};
 ghost use Rattle.relax_core.specs.Versions.{bands_from, restored, versions_in, IsLine};
 
@@ -67,6 +62,12 @@ fn restore(tube: &mut Tube, from: u32, kept: &[Band])
 }
 
 impl Line {
+    ghost use Rattle.std.specs.Prelude.{slice_index_or};
+    ghost use Rattle.relaxation.specs.Window.{Window};
+    ghost use Rattle.relaxation.specs.Tube.{HasNumbers, meet};
+    ghost use Rattle.plant_streams.specs.Streams.{streams_of};
+    ghost use Rattle.renewal.specs.Plan.{window_of};
+
     /// A stream's opening tube as version 0.
     pub(crate) fn open(
         alloc: Global,
