@@ -40,7 +40,7 @@ fn has_summary<R: Abort + Threads + Sync>(
     }
     let relaxed = summary_of(rt, alloc, stages, NoChaos::new())?;
     assert!(rt; relaxed.as_bytes() == text.as_bytes(), "{stages} stages");
-    let stepped = stepped_summary(rt, alloc, stages)?;
+    let stepped = stepped_summary(alloc, stages)?;
     assert!(rt;
         stepped.as_bytes() == text.as_bytes(),
         "{stages} stages, stepped"

@@ -7,6 +7,7 @@ use crate::renewals::{LEVEL, WORKED_TANK, has_rows};
 use crate::windows::{plant_with_units, settled};
 use feeds::FeedReader;
 use flow_edge::NoSource;
+use memchr::memmem;
 use plant::Plant;
 use relax_core::{Chaos, Made, NoChaos, Refs, StepRow, Window};
 use renewal::WindowPlan;
@@ -15,7 +16,7 @@ use std::process::Abort;
 use std::test::Fail;
 use std::thread::Threads;
 use stepping::Stepper;
-use window_accept::{Relaxing, Session, Windows};
+use window_accept::Session;
 
 /// Makes the first version of stream 3, the tank's level, from the tubes with which its inputs open.
 #[derive(Drop)]
@@ -89,14 +90,15 @@ fn has_steps<R: Abort>(rt: &R, window: &Window, streams: &[u32]) {
 }
 
 /// The first window of a plant, with the steps of these streams, has the tank's level.
-fn makes_first<R: Abort + Threads + Sync, W: Windows>(
+fn makes_first<R: Abort + Threads + Sync, C: Chaos>(
     rt: &R,
     alloc: Global,
-    windows: &mut W,
+    session: &mut Session,
+    chaos: &mut C,
     streams: &[u32],
 ) -> Result<(), Fail> {
-    let mut feeds = FeedReader::plain(alloc, windows.plant())?;
-    let Ok(window) = windows.next_window(rt, alloc, &mut feeds, &mut NoSource) else {
+    let mut feeds = FeedReader::plain(alloc, session.plant())?;
+    let Ok(window) = session.next_window(rt, alloc, chaos, &mut feeds, &mut NoSource) else {
         return Err("no window".into());
     };
     has_steps(rt, &window, streams);
@@ -108,24 +110,47 @@ fn makes_first<R: Abort + Threads + Sync, W: Windows>(
 #[test]
 fn what_was_made_elsewhere_is_adopted_first(rt: HostRuntime) -> Result<(), Fail> {
     let plant = plant_with_units(rt.alloc(), &[WORKED_TANK])?;
-    let chaos = LevelFirst {
+    let mut chaos = LevelFirst {
         asked: 0,
         rows: Vec::new(rt.alloc()),
     };
-    let mut windows = Relaxing::new(Session::open(rt.alloc(), plant)?, chaos);
-    makes_first(&rt, rt.alloc(), &mut windows, &[3, 2])
+    let mut session = Session::open(rt.alloc(), plant)?;
+    makes_first(&rt, rt.alloc(), &mut session, &mut chaos, &[3, 2])
 }
 
 #[test]
 fn a_window_settles_by_itself(rt: HostRuntime) -> Result<(), Fail> {
     let plant = plant_with_units(rt.alloc(), &[WORKED_TANK])?;
-    let mut windows = Relaxing::new(Session::open(rt.alloc(), plant)?, NoChaos::new());
-    makes_first(&rt, rt.alloc(), &mut windows, &[2, 3])
+    let mut session = Session::open(rt.alloc(), plant)?;
+    makes_first(&rt, rt.alloc(), &mut session, &mut NoChaos::new(), &[2, 3])
+}
+
+/// The text of a row of the tank's level.
+fn level_row(alloc: Global, tick: u32, ends: (i64, i64)) -> Result<String, Fail> {
+    let (lo, hi) = ends;
+    Ok(format!(in alloc; "{tick},t.level,value,{lo},{hi}\n")?)
+}
+
+/// The rows of a text have the tank's level.
+fn has_level<R: Abort>(rt: &R, alloc: Global, rows: &[u8]) -> Result<(), Fail> {
+    for (tick, row) in &LEVEL {
+        let ends = row.first().ok_or("no level")?;
+        let wanted = level_row(alloc, *tick, *ends)?;
+        assert!(rt;
+            memmem::find(rows, wanted.as_bytes()).is_some(),
+            "at {tick}"
+        );
+    }
+    Ok(())
 }
 
 #[test]
 fn a_window_is_stepped(rt: HostRuntime) -> Result<(), Fail> {
     let plant = plant_with_units(rt.alloc(), &[WORKED_TANK])?;
-    let mut windows = Stepper::open(rt.alloc(), plant)?;
-    makes_first(&rt, rt.alloc(), &mut windows, &[])
+    let mut stepper = Stepper::open(rt.alloc(), plant)?;
+    let mut feeds = FeedReader::plain(rt.alloc(), stepper.plant())?;
+    let Ok(rows) = stepper.next_rows(rt.alloc(), &mut feeds, &mut NoSource) else {
+        return Err("no window".into());
+    };
+    has_level(&rt, rt.alloc(), rows.as_bytes())
 }
