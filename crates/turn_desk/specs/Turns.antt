@@ -62,8 +62,9 @@ abbrev pub passes_of : List PassView → ℕ
 passes_of [] = 0
 passes_of (v ∷ vs) = v.passes + passes_of vs
 
--- The word is the number that is drawn next. Each number below it was drawn once, by one pass, and no other number was.
--- Only where the word has reached the limit has a pass ended, and so the word runs over by less than the passes are many.
+-- The word is the number that is drawn next. Each number below it and below the limit was drawn once, by one pass, and no other number
+-- was. A pass may end only where the word has reached the limit, and gives up its place among the 2^32; the word is above the limit
+-- by no more than the places that were given up.
 pub record EachDrawnOnce (limit : ℕ) (s : State (Unit {0}) PassView) : Type 0 where
   pub one_word : length s.words ≡ 1
   pub once : (x : ℕ) → x < limit → x < slice_index s.words 0 → times_drawn x s.views ≡ 1

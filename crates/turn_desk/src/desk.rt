@@ -13,13 +13,13 @@ pub trait Desk {
     /// It is a seat of this desk.
     ghost is_seat: { Self → Self.Seat → Type 0 };
 
-    /// The seat is given none from now on, for the desk's own reason.
+    /// Why the seat was given none, each desk's own reason.
     ghost ended: { Self → Self.Seat → Type 0 };
 
     /// How many units the seat is given at most from now on.
     ghost left: { Self → Self.Seat → ℕ };
 
-    /// The next unit, or none from now on.
+    /// The next unit, or none.
     fn next(&self, seat: &mut Self::Seat) -> Option<u32>
         requires { is_seat self.now seat.old }
         ensures seat { is_seat self.now seat.new }

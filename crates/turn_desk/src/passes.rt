@@ -8,7 +8,7 @@ use std::alloc::Global;
 
 pub(crate) type TurnShared = Shared<(), PassView, u64, DrawnTable>;
 
-/// Gives the numbers below 32 for each unit, each once, and the number t stands for the unit t modulo the units.
+/// Gives the numbers below 32 times its units, each once, and the number t stands for the unit t modulo the units.
 #[derive(Drop)]
 pub struct TurnDesk {
     pub(crate) table: Table<(), PassView, u64, DrawnTable, Global>,

@@ -105,5 +105,12 @@ impl Desk for TurnDesk {
         }
     }
 
-    fn tell(&self, _seat: &mut DeskPass, _unit: u32) {}
+    fn tell(&self, seat: &mut DeskPass, unit: u32)
+        requires seat { IsPassOf self.now seat.old }
+        requires unit { unit < self.now.units }
+        ensures nothing { seat.new ≡ seat.old }
+        ensures seat { IsPassOf self.now seat.new }
+        ensures left { left_of (32 * self.now.units) (pass_view seat.new) ≡ left_of (32 * self.now.units) (pass_view seat.old) }
+        ensures ended { (pass_view seat.old).ended ≡ true → (pass_view seat.new).ended ≡ true }
+    {}
 }

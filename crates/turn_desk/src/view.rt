@@ -26,6 +26,7 @@ impl TableRule<(), PassView, u64> for DrawnTable {
     ghost first = { opening_pass };
 }
 
+/// A pass draws a number.
 pub(crate) struct Drawing;
 
 impl Play<(), PassView> for Drawing {
@@ -34,6 +35,7 @@ impl Play<(), PassView> for Drawing {
     ghost then = { drew };
 }
 
+/// A pass is cut off the opening one.
 pub(crate) struct OnePass;
 
 impl Split<PassView> for OnePass {
