@@ -9,19 +9,18 @@ use Rattle.plant_units.specs.Units.{made_unit, unit_from, units_of, sheet_unit}
 use Rattle.plant.specs.PlantOf.{links_of, plant_of}
 use Rattle.flow_top.proofs.laws.worked_bands.Goals as goal
 
--- both sides of each compute to the same bands
-worked : goal.returns-clause-opening × goal.returns-clause-next × goal.returns-clause-last × goal.returns-clause-outflow
-unfolding quotient share keep blend clamp band_at kind_bands ports_of streams_of references_of limits_in openings_of made_unit unit_from units_of sheet_unit links_of plant_of
-worked = ((λ c. refl), (λ c. refl), (λ c. refl), (λ c. refl))
-
 pub returns-clause-opening : goal.returns-clause-opening
-returns-clause-opening = worked.0
+unfolding quotient share keep blend clamp band_at kind_bands ports_of streams_of references_of limits_in openings_of made_unit unit_from units_of sheet_unit links_of plant_of
+returns-clause-opening c = refl
 
 pub returns-clause-next : goal.returns-clause-next
-returns-clause-next = worked.1.0
+unfolding quotient share keep blend clamp band_at kind_bands ports_of streams_of references_of limits_in openings_of made_unit unit_from units_of sheet_unit links_of plant_of
+returns-clause-next c = refl
 
 pub returns-clause-last : goal.returns-clause-last
-returns-clause-last = worked.1.1.0
+unfolding quotient share keep blend clamp band_at kind_bands ports_of streams_of references_of limits_in openings_of made_unit unit_from units_of sheet_unit links_of plant_of
+returns-clause-last c = refl
 
 pub returns-clause-outflow : goal.returns-clause-outflow
-returns-clause-outflow = worked.1.1.1
+unfolding quotient share keep blend clamp band_at kind_bands ports_of streams_of references_of limits_in openings_of made_unit unit_from units_of sheet_unit links_of plant_of
+returns-clause-outflow c = refl
