@@ -37,7 +37,8 @@ pub(crate) trait MakesTexts {
         ensures plant { result.now ≡ (session self.now).parts }
         ensures session { IsSession (session self.now) };
 
-    /// The texts of the next window, which has this number. An end is answered from then on.
+    /// The texts of the next window, which has this number. A session's end is answered from then on; where memory ran out
+    /// for the texts alone, the window is lost.
     fn next_texts<R: Threads + Sync, E: Source>(
         &mut self,
         rt: &R,
