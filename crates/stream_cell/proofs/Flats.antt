@@ -1,10 +1,13 @@
 -- The bands of tubes, one after another, cut into versions again.
-use Rattle.std.proofs.Common.{◌≡◌, ℕ, zero, suc, ◌+◌, ◌*◌, ◌<◌, ◌≤◌, List, [], ◌∷◌, ◌++◌, length, map, take, drop, refl, sym, subst, ap, ◌∙◌, arith}
-use Rattle.std.proofs.lemmas.List.{length-append, length-drop, take-append-le, drop-append-le, append-nil, append_assoc, take_all, take_at, drop_at}
+use Rattle.std.proofs.Common.{◌≡◌, ℕ, zero, suc, ◌+◌, ◌-◌, ◌*◌, ◌<◌, ◌≤◌, List, [], ◌∷◌, ◌++◌, length, map, take, drop, slice_index_or, refl, sym, subst, ap, ◌∙◌, arith}
+use Rattle.std.proofs.lemmas.List.{length-append, length-drop, take-append-le, drop-append-le, append-nil, append_assoc, take_all, take_at, drop_at, get_or_push}
 use Rattle.quant.proofs.Calls.{same_cons}
 use Rattle.quant.specs.Interval.{Interval}
-use Rattle.relaxation.specs.Tube.{Tube, at}
-use Rattle.relaxation.specs.History.{History}
+use Rattle.relaxation.specs.Tube.{Tube, at, meet}
+use Rattle.relaxation.specs.History.{Version, History, no_version, numbered}
+use Rattle.tubes.specs.Shape.{HasShapeOf}
+use Rattle.tubes.proofs.Flats.{meet_counted}
+use Rattle.stream_cell.specs.Histories.{newest}
 use Rattle.stream_cell.specs.Flat.{flat, size, cut_by, headed, versions}
 use Rattle.stream_cell.specs.declared.head.Head.{Head}
 
@@ -66,3 +69,32 @@ pub appended_more : (old now row new : List Interval) (tube : Tube) (t : ℕ) �
     new ≡ old ++ flat (take (t + 1) tube)
 appended_more old now row new tube t h was is made =
     made ∙ (ap (λ xs. xs ++ row) was ∙ (append_assoc old (flat (take t tube)) row ∙ ap (λ xs. old ++ xs) (ap (λ r. flat (take t tube) ++ r) is ∙ sym (flat_more tube t h))))
+
+-- the version behind others is the last
+pub newest_pushed : (history : History) (version : Version) → newest (history ++ version ∷ []) ≡ version
+newest_pushed history version = get_or_push history version no_version (length (history ++ version ∷ []) - 1) (omega (arith, length-append history (version ∷ [])))
+
+-- a version has its head's number and stamp
+pub headed_at : (shape : List ℕ) (heads : List Head) (bands : List Interval) (k : ℕ) (head : Head) → k < length heads → head ≡ slice_index_or heads k head →
+    ((numbered (versions shape heads bands) k).number ≡ head.number) × ((numbered (versions shape heads bands) k).stamp ≡ head.stamp)
+headed_at shape [] bands k head h e = absurd (omega arith)
+headed_at shape (first ∷ heads) bands zero head h e = (ap (λ (one : Head). one.number) (sym e), ap (λ (one : Head). one.stamp) (sym e))
+headed_at shape (first ∷ heads) bands (suc k) head h e = headed_at shape heads (drop (size shape) bands) k head (omega arith) e
+
+-- so has the last one
+pub newest_head : (shape : List ℕ) (heads : List Head) (bands : List Interval) (history : History) → versions shape heads bands ≡ history → (k : ℕ) (head : Head) →
+    k + 1 ≡ length heads → head ≡ slice_index_or heads k head → ((newest history).number ≡ head.number) × ((newest history).stamp ≡ head.stamp)
+newest_head shape heads bands history is k head h e =
+    let at : k ≡ length (versions shape heads bands) - 1 = omega (arith, versions_counted shape heads bands) in
+    subst (λ (all : History). ((newest all).number ≡ head.number) × ((newest all).stamp ≡ head.stamp)) is
+    (subst (λ i. ((numbered (versions shape heads bands) i).number ≡ head.number) × ((numbered (versions shape heads bands) i).stamp ≡ head.stamp)) at
+    (headed_at shape heads bands k head (omega arith) e))
+
+-- the meet of two tubes of one shape has it
+pub meet_shape : (A B : Tube) → HasShapeOf A B → map length (meet A B) ≡ map length A
+meet_shape [] B h = refl
+meet_shape (A ∷ As) [] h = cc
+meet_shape (A ∷ As) (B ∷ Bs) h =
+    let first : length A ≡ length B = cc in
+    let rest : HasShapeOf As Bs = cc in
+    same_cons _ _ _ _ (meet_counted A B first) (meet_shape As Bs rest)

@@ -5,6 +5,7 @@ use Rattle.quant.specs.Interval.{Interval}
 use Rattle.relaxation.specs.Tube.{Tube}
 use Rattle.relaxation.specs.History.{Version, History}
 use Rattle.stream_cell.specs.declared.head.Head.{Head}
+use Rattle.stream_cell.specs.Histories.{newest}
 
 -- the bands of each tick, one after another
 abbrev pub flat : Tube → List Interval
@@ -33,7 +34,8 @@ versions shape (head ∷ heads) bands = headed head (cut_by shape bands) ∷ ver
 -- What is kept beside the versions is right: the last one's tube, a tube to meet in, and room for 33 versions.
 pub record IsKept (heads : List Head) (bands : List Interval) (tube spare : Tube) (most_heads most_bands : ℕ) : Type 0 where
   pub counted : length bands ≡ length heads * size (map length tube)
-  pub last : (before : History) × (version : Version) × (versions (map length tube) heads bands ≡ before ++ version ∷ []) × (version.tube ≡ tube)
+  pub some : 0 < length heads
+  pub last : (newest (versions (map length tube) heads bands)).tube ≡ tube
   pub next : map length spare ≡ map length tube
   pub few : length heads ≤ 33
   pub head_room : 33 ≤ most_heads

@@ -1,5 +1,5 @@
--- The versions of a stream that a cell holds, and what meeting the last of them with a renewal makes of them.
-use Rattle.std.specs.Prelude.{◌≡◌, ◌⊎◌, ℕ, ◌+◌, ◌-◌, ◌<◌, ◌≤◌, ◌^◌, max, true, false, List, [], ◌∷◌, ◌++◌, length}
+-- The versions of a stream, and what meeting the last of them with a renewal makes of them.
+use Rattle.std.specs.Prelude.{◌≡◌, ℕ, ◌+◌, ◌-◌, ◌<◌, ◌≤◌, ◌^◌, max, true, false, [], ◌∷◌, ◌++◌, length}
 use Rattle.relaxation.specs.Tube.{Tube, IsWithin, HasNumbers, is_within, meet}
 use Rattle.relaxation.specs.History.{Version, History, IsHistory, numbered}
 use Rattle.tubes.specs.Meeting.{IsFirstEmpty}

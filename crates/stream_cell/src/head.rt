@@ -18,25 +18,16 @@ pub struct Uses {
     pub base: u64,
 }
 
-/// What a look at a cell answers.
-#[derive(Clone, Copy, Debug, PartialEq, Eq)]
-pub enum Look {
-    /// The last version's number and stamp. Its tube was copied.
-    Seen { number: u32, stamp: u64 },
-    /// Another has the turn. Nothing was read.
-    Busy,
-}
-
-/// What meeting a cell's last version with a renewal answers.
+/// What meeting the last version with a renewal answers.
 #[derive(Clone, Copy, Debug, PartialEq, Eq)]
 pub enum CellMet {
-    /// Another has the turn. Nothing was met.
+    /// Another has the turn, and nothing was met. Versions that one worker keeps are never busy.
     Busy,
     /// The first place, by tick and then by channel, at which the two have no number in common.
     Empty { tick: u32, channel: u32 },
     /// The last version, with this number, lies in the renewal already.
     Same { number: u32 },
-    /// The renewal narrows the last version, with this number, but the cell holds 33 versions.
+    /// The renewal narrows the last version, with this number, but there are 33 versions.
     Full { number: u32 },
     /// The meet was appended, with this number and this stamp.
     Narrowed { number: u32, stamp: u64 },

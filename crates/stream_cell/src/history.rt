@@ -37,13 +37,12 @@ impl History {
     ghost use Rattle.stream_cell.specs.Histories.{opened, newest, Judges};
 
     /// A tube as version 0, with room for all that may follow.
-    pub(crate) fn open(alloc: Global, opening: &Tube) -> Result<Self, AllocError>
+    pub fn open(alloc: Global, opening: &Tube) -> Result<Self, AllocError>
         ensures { IfOk result (λ history. history ≡ opened opening.now) }
     {
         let mut bands = Vec::with_capacity(alloc, about(opening).saturating_mul(MOST))?;
         append_rows(&mut bands, opening)?;
-        let more = bands.len().checked_mul(MOST - 1).ok_or(AllocError)?;
-        bands.reserve(more)?;
+        bands.reserve(bands.len().saturating_mul(MOST - 1))?;
         let mut heads = Vec::with_capacity(alloc, MOST)?;
         heads.push_reserved(Head {
             number: 0,
@@ -67,7 +66,7 @@ impl History {
     }
 
     /// Copies the last version's tube, and answers its number and its stamp.
-    pub(crate) fn show(&self, into: &mut Tube) -> (u32, u64)
+    pub fn show(&self, into: &mut Tube) -> (u32, u64)
         requires shape { HasShapeOf into.old (newest self.now).tube }
         ensures tube { into.new ≡ (newest self.now).tube }
         ensures head { (result.0 ≡ (newest self.now).number) × (result.1 ≡ (newest self.now).stamp) }
@@ -78,7 +77,7 @@ impl History {
     }
 
     /// Meets the last version with a renewal, and appends the meet where that narrows and there is room.
-    pub(crate) fn meet(&mut self, maker: u32, renewal: &Tube, uses: &Uses) -> CellMet
+    pub fn meet(&mut self, maker: u32, renewal: &Tube, uses: &Uses) -> CellMet
         requires shape { HasShapeOf (newest self.old).tube renewal.now }
         requires stamp { (newest self.old).stamp + 1 < 2 ^ 64 }
         requires base { uses.now.base < 2 ^ 62 }

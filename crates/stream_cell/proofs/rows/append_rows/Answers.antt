@@ -1,4 +1,4 @@
-use Rattle.std.proofs.Common.{rules, ◌≡◌, ◌+◌, ◌<◌, ◌≤◌, length, ap, ◌∙◌, take, sym, arith}
+use Rattle.std.proofs.Common.{rules, ◌≡◌, ◌+◌, ◌<◌, ◌≤◌, length, ap, ◌∙◌, take, arith}
 use Rattle.std.proofs.lemmas.List.{length-append}
 use Rattle.relaxation.specs.Tube.{at}
 use Rattle.stream_cell.specs.Flat.{flat}
