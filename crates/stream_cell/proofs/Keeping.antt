@@ -53,13 +53,13 @@ spare_kept kept other same = record {
   band_room = kept.band_room;
 }
 
--- the meet with the last tube has its shape
-pub met_shape : {heads : List Head} {bands : List Interval} {tube spare : Tube} {most_heads most_bands : ℕ} → IsKept heads bands tube spare most_heads most_bands →
-    (history : History) → versions (map length tube) heads bands ≡ history → (copied renewal made : Tube) → copied ≡ tube →
-    HasShapeOf (newest history).tube renewal → made ≡ meet copied renewal → map length made ≡ map length tube
-met_shape {tube = tube} kept history is copied renewal made same shape met =
-    ap (map length) (met ∙ ap (λ one. meet one renewal) same)
-    ∙ meet_shape tube renewal (subst (λ one. HasShapeOf one renewal) (last_is kept history is) shape)
+-- what has the shape of the last version has that of the last tube, and so has the meet of the two
+pub renewal_shape : {heads : List Head} {bands : List Interval} {tube spare : Tube} {most_heads most_bands : ℕ} → IsKept heads bands tube spare most_heads most_bands →
+    (history : History) → versions (map length tube) heads bands ≡ history → (renewal : Tube) → HasShapeOf (newest history).tube renewal → HasShapeOf renewal tube
+renewal_shape kept history is renewal shape = sym (subst (λ one. HasShapeOf one renewal) (last_is kept history is) shape)
+
+pub met_shape : (tube copied renewal made : Tube) → HasShapeOf renewal tube → copied ≡ tube → made ≡ meet copied renewal → map length made ≡ map length tube
+met_shape tube copied renewal made shape same met = ap (map length) (met ∙ ap (λ one. meet one renewal) same) ∙ meet_shape tube renewal (sym shape)
 
 -- there is room for one more
 pub room_kept : {heads : List Head} {bands : List Interval} {tube spare : Tube} {most_heads most_bands : ℕ} → IsKept heads bands tube spare most_heads most_bands →

@@ -3,7 +3,7 @@ use Rattle.tubes.specs.Meeting.{Meets}
 use Rattle.tubes.specs.declared.tube.Met.TheVariants as met
 use Rattle.stream_cell.specs.Histories.{newest}
 use Rattle.stream_cell.proofs.Flats.{newest_head, versions_counted}
-use Rattle.stream_cell.proofs.Keeping.{last_is, spare_kept, met_shape, room_kept, more_kept, appended_is, headed_is}
+use Rattle.stream_cell.proofs.Keeping.{last_is, spare_kept, renewal_shape, met_shape, room_kept, more_kept, appended_is, headed_is}
 use Rattle.stream_cell.proofs.history.History.meet.Goals as goal
 
 pub returns-in-Same : goal.returns-in-Same
@@ -28,7 +28,7 @@ returns-in-Narrowed c =
 
 pub invariant_of-self-then-count-eq-MOST : goal.invariant_of-self-then-count-eq-MOST
 invariant_of-self-then-count-eq-MOST c =
-    spare_kept c.self.invariant _ (met_shape c.self.invariant _ c.self.view_is _ _ _ c.copy_from.ensures c.requires.shape c.in-Narrowed.ensures.2)
+    spare_kept c.self.invariant _ (met_shape _ _ _ _ (renewal_shape c.self.invariant _ c.self.view_is _ c.requires.shape) c.copy_from.ensures c.in-Narrowed.ensures.2)
 
 pub overflow_add-stamp : goal.overflow_add-stamp
 overflow_add-stamp c =
@@ -39,18 +39,20 @@ overflow_add-stamp c =
 pub append-requires-clause-bands : goal.append-requires-clause-bands
 append-requires-clause-bands c =
     let few : length c.self.inside.heads.items < 33 = omega (arith, c.self.inside.heads.ok.0, c.self.invariant.few, c.len-count.ensures, c.if-count-eq-MOST.false) in
-    room_kept c.self.invariant _ (met_shape c.self.invariant _ c.self.view_is _ _ _ c.copy_from.ensures c.requires.shape c.in-Narrowed.ensures.2) few
+    let renewed = renewal_shape c.self.invariant _ c.self.view_is _ c.requires.shape in
+    let met = met_shape _ _ _ _ renewed c.copy_from.ensures c.in-Narrowed.ensures.2 in
+    search (room_kept c.self.invariant)
 
 pub copy_from-requires-in-Narrowed-2 : goal.copy_from-requires-in-Narrowed-2
 copy_from-requires-in-Narrowed-2 c = record {
-  shape = sym (met_shape c.self.invariant _ c.self.view_is _ _ _ c.copy_from.ensures c.requires.shape c.in-Narrowed.ensures.2);
+  shape = sym (met_shape _ _ _ _ (renewal_shape c.self.invariant _ c.self.view_is _ c.requires.shape) c.copy_from.ensures c.in-Narrowed.ensures.2);
 }
 
 pub invariant_of-self-in-Narrowed-2 : goal.invariant_of-self-in-Narrowed-2
 invariant_of-self-in-Narrowed-2 c =
     let few : length c.self.inside.heads.items < 33 = omega (arith, c.self.inside.heads.ok.0, c.self.invariant.few, c.len-count.ensures, c.if-count-eq-MOST.false) in
     more_kept c.self.invariant _ _ _ _ _ _ _
-    (met_shape c.self.invariant _ c.self.view_is _ _ _ c.copy_from.ensures c.requires.shape c.in-Narrowed.ensures.2)
+    (met_shape _ _ _ _ (renewal_shape c.self.invariant _ c.self.view_is _ c.requires.shape) c.copy_from.ensures c.in-Narrowed.ensures.2)
     c.copy_from-in-Narrowed-2.ensures c.append.ensures.heads c.append.ensures.bands few c.append.ensures.head_room c.append.ensures.band_room
 
 pub returns-in-Narrowed-2 : goal.returns-in-Narrowed-2
@@ -72,6 +74,6 @@ returns-in-Narrowed-2 c =
       stamp,
       appended_is c.self.invariant _ _ c.self.view_is _ _ _ _ _
           (headed_is _ _ _ _ _ _ (sym all) refl stamp c.copied-refs.ensures met.2)
-          (met_shape c.self.invariant _ c.self.view_is _ _ _ c.copy_from.ensures c.requires.shape c.in-Narrowed.ensures.2)
+          (met_shape _ _ _ _ (renewal_shape c.self.invariant _ c.self.view_is _ c.requires.shape) c.copy_from.ensures c.in-Narrowed.ensures.2)
           c.copy_from-in-Narrowed-2.ensures c.append.ensures.heads c.append.ensures.bands,
     )
