@@ -16,14 +16,14 @@ returns-in-Same c =
 
 pub returns-in-Narrowed : goal.returns-in-Narrowed
 returns-in-Narrowed c =
-    let tube = c.copy_from.ensures ∙ sym (last_is c.self.invariant _ c.self.view_is) in
-    let met = subst (λ A. Meets met.Narrowed A c.args.renewal.now c.meet_into.new.self) tube c.in-Narrowed.ensures in
-    let is : c.len-count.result - 1 + 1 ≡ length c.self.inside.heads.items = omega (arith, c.self.inside.heads.ok.0, c.self.invariant.some) in
-    let head = newest_head _ c.self.inside.heads.items c.self.inside.bands.items _ c.self.view_is _ _ is c.index.ensures in
     let count : length c.args.self.now ≡ c.len-count.result =
     sym (ap length c.self.view_is)
     ∙ (versions_counted _ c.self.inside.heads.items c.self.inside.bands.items ∙ (sym c.self.inside.heads.ok.0 ∙ sym c.len-count.ensures)) in
     let all : length c.args.self.now ≡ 33 = omega (arith, c.self.inside.heads.ok.0, c.self.invariant.few, c.len-count.ensures, c.if-count-eq-MOST.true) in
+    let is : c.len-count.result - 1 + 1 ≡ length c.self.inside.heads.items = omega (arith, c.self.inside.heads.ok.0, c.self.invariant.some) in
+    let head = newest_head _ c.self.inside.heads.items c.self.inside.bands.items _ c.self.view_is _ _ is c.index.ensures in
+    let tube = c.copy_from.ensures ∙ sym (last_is c.self.invariant _ c.self.view_is) in
+    let met = subst (λ A. Meets met.Narrowed A c.args.renewal.now c.meet_into.new.self) tube c.in-Narrowed.ensures in
     (met.0, met.1, all, sym head.0, c.self.view_is)
 
 pub invariant_of-self-then-count-eq-MOST : goal.invariant_of-self-then-count-eq-MOST
