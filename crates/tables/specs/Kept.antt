@@ -36,3 +36,8 @@ headed_rows tick [] bands = []
 headed_rows tick (head ∷ rest) [] = []
 headed_rows tick (head ∷ rest) (band ∷ bands) =
     headed_row tick head band ++ headed_rows tick rest bands
+
+-- the first bytes, so many of them, are the tick's text
+pub record IsTickText (tick len : ℕ) (bytes : List ℕ) : Type 0 where
+  pub within : len ≤ length bytes
+  pub text : take len bytes ≡ tick_text tick

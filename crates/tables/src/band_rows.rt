@@ -3,6 +3,7 @@
 ghost use Rattle.std.specs.Prelude.{◌≡◌, ◌++◌, [], OnOk, OnErr};
 ghost use Rattle.tables.specs.Output.{stream_rows};
 
+use crate::block_text::BlockText;
 use crate::numbers::NumberWriter;
 use crate::stream_rows::StreamRows;
 use crate::tick_text::TickText;
@@ -16,7 +17,7 @@ use std::marker::Model;
 pub struct BandRows {
     tick: TickText,
     numbers: NumberWriter,
-    text: Vec<u8>,
+    text: BlockText,
 }
 
 impl Model for BandRows {
@@ -24,7 +25,7 @@ impl Model for BandRows {
 
     ghost Value = { List ℕ };
 
-    ghost view = { λ rows. rows.text.items };
+    ghost view = { λ rows. rows.text };
 }
 
 impl BandRows {
@@ -35,7 +36,7 @@ impl BandRows {
         BandRows {
             tick: TickText::new(0),
             numbers: NumberWriter::new(alloc),
-            text: Vec::new(alloc),
+            text: BlockText::new(alloc),
         }
     }
 
@@ -64,6 +65,6 @@ impl BandRows {
     pub fn into_text(self) -> Vec<u8>
         ensures { result.items ≡ self }
     {
-        self.text
+        self.text.into_bytes()
     }
 }

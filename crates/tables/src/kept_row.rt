@@ -1,8 +1,9 @@
 //! The row of one channel, whose text is kept while its band stays.
 
 ghost use Rattle.std.specs.Prelude.{◌≡◌, ◌++◌, IfOk, OnOk};
-ghost use Rattle.tables.specs.Kept.{head_of, headed_row, numbers_of};
+ghost use Rattle.tables.specs.Kept.{head_of, headed_row};
 
+use crate::block_text::{BLOCK, BlockText};
 use crate::numbers::NumberWriter;
 use crate::tick_text::TickText;
 use quant::Band;
@@ -18,7 +19,7 @@ const ROOM: usize = 32;
 pub(crate) struct KeptRow {
     band: Band,
     head: usize,
-    text: Vec<u8>,
+    text: BlockText,
 }
 
 impl Model for KeptRow {
@@ -27,9 +28,9 @@ impl Model for KeptRow {
 
     ghost Value = { KeptOf };
 
-    ghost view = { λ row. record { head = take row.head row.text.items; band = row.band } };
+    ghost view = { λ row. record { head = take row.head row.text; band = row.band } };
 
-    ghost invariant = { λ row. IsKept row.head row.band row.text.items };
+    ghost invariant = { λ row. IsKept row.head row.band row.text };
 }
 
 impl KeptRow {
@@ -39,7 +40,7 @@ impl KeptRow {
     {
         let mut text = head_text(alloc, name, channel)?;
         let head = text.len();
-        text.extend_from_slice(b"0,0\n")?;
+        text.push(b"0,0\n")?;
         Ok(KeptRow {
             band: Band::point(0),
             head,
@@ -53,14 +54,14 @@ impl KeptRow {
         tick: &TickText,
         band: Band,
         numbers: &mut NumberWriter,
-        text: &mut Vec<u8>,
+        text: &mut BlockText,
     ) -> Result<(), AllocError>
         ensures head { self.new.head ≡ self.old.head }
-        ensures row { OnOk result (text.new.items ≡ text.old.items ++ headed_row tick.now self.old.head band) }
+        ensures row { OnOk result (text.new ≡ text.old ++ headed_row tick.now self.old.head band) }
     {
         self.turn_to(band, numbers)?;
-        text.extend_from_slice(tick.as_bytes())?;
-        text.extend_from_slice(self.as_bytes())
+        tick.put(text)?;
+        text.push_text(&self.text)
     }
 
     /// Makes the numbers anew where the band is another.
@@ -75,21 +76,16 @@ impl KeptRow {
         self.band = band;
         Ok(())
     }
-
-    fn as_bytes(&self) -> &[u8]
-        ensures { result.now ≡ self.now.head ++ numbers_of self.now.band }
-    {
-        self.text.as_slice()
-    }
 }
 
-fn head_text(alloc: Global, name: &[u8], channel: &[u8]) -> Result<Vec<u8>, AllocError>
-    ensures { IfOk result (λ text. text.items ≡ head_of name.now channel.now) }
+fn head_text(alloc: Global, name: &[u8], channel: &[u8]) -> Result<BlockText, AllocError>
+    ensures { IfOk result (λ text. text ≡ head_of name.now channel.now) }
 {
-    let mut text = Vec::with_capacity(alloc, name.len().saturating_add(ROOM))?;
-    text.extend_from_slice(name)?;
-    text.push(b',')?;
-    text.extend_from_slice(channel)?;
-    text.push(b',')?;
+    let room = name.len().saturating_add(ROOM).max(BLOCK);
+    let mut text = BlockText::with_spare(alloc, room)?;
+    text.push(name)?;
+    text.push(b",")?;
+    text.push(channel)?;
+    text.push(b",")?;
     Ok(text)
 }

@@ -2,6 +2,7 @@
 #![tactic(auto)]
 
 mod band_rows;
+mod block_text;
 mod kept_row;
 mod numbers;
 mod row_writer;

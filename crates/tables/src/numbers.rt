@@ -8,6 +8,7 @@ ghost use Rattle.tables.specs.Kept.{numbers_of};
 ghost use Rattle.tables.specs.Line.{line};
 ghost use Rattle.tables.specs.Writer.{IsBetweenRows, IsFlushed, table_writer, text_so_far};
 
+use crate::block_text::BlockText;
 use crate::row_writer::{begin_anew, row_writer};
 use csv::{Error, QuoteStyle, Writer};
 use itoa::Buffer;
@@ -47,10 +48,10 @@ impl NumberWriter {
 
     /// Puts the numbers of a band in the place of what a text has behind its head. After an error the text is as
     /// before.
-    pub fn put(&mut self, band: Band, text: &mut Vec<u8>, head: usize) -> Result<(), AllocError>
-        requires { head ≤ length text.old.items }
-        ensures ok { OnOk result (text.new.items ≡ take head text.old.items ++ numbers_of band) }
-        ensures err { OnErr result (text.new.items ≡ text.old.items) }
+    pub fn put(&mut self, band: Band, text: &mut BlockText, head: usize) -> Result<(), AllocError>
+        requires { head ≤ length text.old }
+        ensures ok { OnOk result (text.new ≡ take head text.old ++ numbers_of band) }
+        ensures err { OnErr result (text.new ≡ text.old) }
     {
         give_back(&mut self.writer, self.alloc);
         let start = self.writer.get_ref().len();
@@ -58,7 +59,7 @@ impl NumberWriter {
             begin_anew(&mut self.writer, self.alloc, QuoteStyle::Necessary);
             return Err(AllocError);
         }
-        replace_end(text, head, &self.writer.get_ref().as_slice()[start..])
+        text.replace_end(head, &self.writer.get_ref().as_slice()[start..])
     }
 }
 
@@ -107,15 +108,4 @@ fn write_pair<'a>(
     ensures ready { OnOk result (IsBetweenRows Necessary writer.new) }
 {
     writer.write_fields(&[first, second])
-}
-
-/// Puts an end in the place of what a text has behind its head.
-fn replace_end(text: &mut Vec<u8>, head: usize, end: &[u8]) -> Result<(), AllocError>
-    requires { head ≤ length text.old.items }
-    ensures ok { OnOk result (text.new.items ≡ take head text.old.items ++ end.now) }
-    ensures err { OnErr result (text.new.items ≡ text.old.items) }
-{
-    text.resize(head + end.len(), 0)?;
-    text[head..].copy_from_slice(end);
-    Ok(())
 }

@@ -4,6 +4,7 @@ ghost use Rattle.std.specs.Prelude.{◌≡◌, ◌++◌, map, IfOk, OnOk};
 ghost use Rattle.tables.specs.Kept.{head_of, heads, headed_rows};
 ghost use Rattle.tables.specs.Output.{channels};
 
+use crate::block_text::BlockText;
 use crate::kept_row::KeptRow;
 use crate::numbers::NumberWriter;
 use crate::tick_text::TickText;
@@ -67,10 +68,10 @@ impl<'a> StreamRows<'a> {
         tick: &TickText,
         bands: &[Band],
         numbers: &mut NumberWriter,
-        text: &mut Vec<u8>,
+        text: &mut BlockText,
     ) -> Result<(), AllocError>
         ensures label { self.new ≡ self.old }
-        ensures rows { OnOk result (text.new.items ≡ text.old.items ++ stream_rows tick.now self.old bands.now) }
+        ensures rows { OnOk result (text.new ≡ text.old ++ stream_rows tick.now self.old bands.now) }
     {
         put_rows(self.rows.as_mut_slice(), tick, bands, numbers, text)
     }
@@ -93,10 +94,10 @@ fn put_rows(
     tick: &TickText,
     bands: &[Band],
     numbers: &mut NumberWriter,
-    text: &mut Vec<u8>,
+    text: &mut BlockText,
 ) -> Result<(), AllocError>
     ensures heads { heads rows.new ≡ heads rows.old }
-    ensures rows { OnOk result (text.new.items ≡ text.old.items ++ headed_rows tick.now (heads rows.old) bands.now) }
+    ensures rows { OnOk result (text.new ≡ text.old ++ headed_rows tick.now (heads rows.old) bands.now) }
 {
     for i in 0..rows.len().min(bands.len()) {
         rows[i].put(tick, bands[i], numbers, text)?;

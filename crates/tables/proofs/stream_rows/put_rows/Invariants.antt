@@ -8,6 +8,6 @@ invariant-loop-i l =
     let all = heads l.initial.rows in
     record {
       heads : heads l.rows ≡ all;
-      rows : l.text.items ++ headed_rows l.tick (drop l.i all) (drop l.i l.bands)
-          ≡ l.initial.text.items ++ headed_rows l.tick all l.bands;
+      rows : l.text ++ headed_rows l.tick (drop l.i all) (drop l.i l.bands)
+          ≡ l.initial.text ++ headed_rows l.tick all l.bands;
     }
