@@ -73,7 +73,7 @@ fn give_back(writer: &mut Writer<Vec<u8>>, alloc: Global)
     }
 }
 
-fn write_numbers(writer: &mut Writer<Vec<u8>>, band: Band) -> Result<(), Error>
+fn write_numbers(writer: &mut Writer<Vec<u8>>, band: Band) -> Result<(), AllocError>
     requires { IsFlushed Necessary writer.old }
     ensures numbers { OnOk result ((writer_under writer.new).items
         ≡ (writer_under writer.old).items ++ numbers_of band) }
@@ -81,11 +81,27 @@ fn write_numbers(writer: &mut Writer<Vec<u8>>, band: Band) -> Result<(), Error>
 {
     let mut lo = Buffer::new();
     let mut hi = Buffer::new();
-    write_pair(writer, text_of(&mut lo, band.lo), text_of(&mut hi, band.hi))?;
-    writer.flush()
+    match write_pair(writer, text_of(&mut lo, band.lo), text_of(&mut hi, band.hi)) {
+        Ok(()) => flush(writer),
+        Err(_) => Err(AllocError),
+    }
+}
+
+/// Moves what was written into the vector.
+#[inline]
+fn flush(writer: &mut Writer<Vec<u8>>) -> Result<(), AllocError>
+    requires { IsBetweenRows Necessary writer.old }
+    ensures text { OnOk result ((writer_under writer.new).items ≡ text_so_far writer.old) }
+    ensures flushed { OnOk result (IsFlushed Necessary writer.new) }
+{
+    match writer.flush() {
+        Ok(()) => Ok(()),
+        Err(_) => Err(AllocError),
+    }
 }
 
 /// The text of a number, which needs no quotes.
+#[inline]
 #[tactic(auto, using(crate::proofs::Digits::number_plain))]
 fn text_of(buffer: &mut Buffer, number: i64) -> &[u8]
     ensures text { result.now ≡ signed_decimal number }
@@ -95,7 +111,7 @@ fn text_of(buffer: &mut Buffer, number: i64) -> &[u8]
 }
 
 /// Writes a row of two fields, of which none needs quotes.
-#[inline(never)]
+#[inline]
 fn write_pair<'a>(
     writer: &mut Writer<Vec<u8>>,
     first: &'a [u8],
