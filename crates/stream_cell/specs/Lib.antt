@@ -1,2 +1,6 @@
+pub mod Cell
 pub mod Flat
 pub mod Histories
+pub mod Passes
+pub mod Seats
+pub mod Steps
