@@ -126,3 +126,13 @@ module _ (opening : Tube) (n count : ℕ) (more : n < count) (me left : MyMe) (p
     alone = record { table = table; me = alone ∙ ap (λ (v : PassView). (v ∷ [], [])) (sym its_view) };
     fresh = its_view ∙ ap (new_pass opening) (sym number);
   }
+
+-- a seat stands for the passes of another too
+pub joined_all : (me now : MyMe) (other : CellPass) (others rest : List CellPass) (all : List PassView) → other.seat.me ≡ (pass_view other ∷ [], []) →
+    now ≡ (me.0 ++ other.seat.me.0, me.1) → others ≡ other ∷ rest → me.0 ++ map pass_view others ≡ all → now.0 ++ map pass_view rest ≡ all
+joined_all me now other others rest all alone joined left is =
+    ap (λ (one : MyMe). one.0 ++ map pass_view rest) joined
+    ∙ ap (λ (one : MyMe). (me.0 ++ one.0) ++ map pass_view rest) alone
+    ∙ append_assoc me.0 (pass_view other ∷ []) (map pass_view rest)
+    ∙ ap (λ (passes : List CellPass). me.0 ++ map pass_view passes) (sym left)
+    ∙ is
