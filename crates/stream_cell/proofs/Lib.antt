@@ -2,4 +2,7 @@ pub mod Dealing
 pub mod Flats
 pub mod Keeping
 pub mod Growing
+pub mod Passing
+pub mod Seating
+pub mod Stepping
 pub mod Views

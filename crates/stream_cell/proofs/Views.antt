@@ -1,9 +1,10 @@
 -- Seats' views as lists of lists: sums over them, and what each of their passes is.
-use Rattle.std.proofs.Common.{◌≡◌, ◌≢◌, ℕ, zero, suc, ◌+◌, ◌<◌, ◌≤◌, Bool, true, false, cond, List, [], ◌∷◌, ◌++◌, set, take, drop, length, sum_by, count_by, refl, sym, ap, ◌∙◌, subst, arith}
+use Rattle.std.proofs.Common.{◌≡◌, ◌≢◌, ◌⊎◌, ℕ, zero, suc, ◌+◌, ◌<◌, ◌≤◌, Bool, true, false, cond, List, [], ◌∷◌, ◌++◌, set, take, drop, length, sum_by, count_by, ⊎_elim, refl, sym, ap, ◌∙◌, subst, arith}
 use Rattle.std.specs.List.{AllByRecursion}
 use Rattle.std.proofs.lemmas.List.Sums.{sum_by-cons, sum_by-append, sum_by_push, sum_by-take-drop}
 use mathlib.Core.Option.{some, some-injective, some-ne-none}
 use lib.ListN.{get_elem?}
+use Rattle.atomic_table.proofs.Lists.{at_set}
 
 -- sums over the views, at a seat
 module _ {A : Type 0} (f : A → ℕ) where
@@ -60,6 +61,10 @@ module _ {A : Type 0} (f : A → ℕ) where
   pub sum_cut : (n : ℕ) (l : List A) → sum_by f (take n l) + sum_by f (drop n l) ≡ sum_by f l
   sum_cut n l = sum_by-take-drop f l n
 
+unpassed : (b : Bool) → ◌≡◌ {A = ℕ} (cond b 1 0) 0 → b ≡ false
+unpassed true e = absurd (omega arith)
+unpassed false e = refl
+
 -- how many of a list pass a test
 module _ {A : Type 0} (p : A → Bool) where
   pub count_append : (k l : List A) → count_by p (k ++ l) ≡ count_by p k + count_by p l
@@ -73,6 +78,12 @@ module _ {A : Type 0} (p : A → Bool) where
 
   pub count_yes : (v : A) → p v ≡ true → count_by p (v ∷ []) ≡ 1
   count_yes v e = count_one v ∙ ap (λ b. cond b 1 0) e
+
+  pub count_none : (l : List A) → count_by p l ≡ 0 → AllByRecursion (λ v. p v ≡ false) l
+  count_none [] none = tt
+  count_none (v ∷ l) none =
+      let all = sum_by-cons (λ x. cond (p x) 1 0) v l in
+      (unpassed (p v) (omega arith), count_none l (omega arith))
 
   pub count_no : (v : A) → p v ≡ false → count_by p (v ∷ []) ≡ 0
   count_no v e = count_one v ∙ ap (λ b. cond b 1 0) e
@@ -114,3 +125,16 @@ all_other P Q (u ∷ us) same all = (same u all.0, all_other P Q us same all.1)
 pub all_places : {A : Type 0} (P : A → Type 0) (l : List A) → ((i : ℕ) (v : A) → get_elem? l i ≡ some v → P v) → AllByRecursion P l
 all_places P [] each = tt
 all_places P (u ∷ us) each = (each 0 u refl, all_places P us (λ i v e. each (suc i) v e))
+
+-- the others stay what they are, where one is exchanged
+pub all_exchanged : {A : Type 0} (P : A → Type 0) (l : List A) (i : ℕ) (w : A) →
+    ((j : ℕ) (v : A) → j ≢ i → get_elem? l j ≡ some v → P v) → P w → AllByRecursion P (set l i w)
+all_exchanged P l i w others own = all_places P (set l i w) (λ j v e. ⊎_elim
+    (λ (t : (j ≡ i) × (w ≡ v)). subst P t.1 own)
+    (λ (t : (j ≢ i) × (get_elem? l j ≡ some v)). others j v t.0 t.1)
+    (at_set l i j w v e))
+
+-- two facts of each
+pub all_both : {A : Type 0} (P Q R : A → Type 0) (l : List A) → ((v : A) → P v → Q v → R v) → AllByRecursion P l → AllByRecursion Q l → AllByRecursion R l
+all_both P Q R [] both first second = tt
+all_both P Q R (v ∷ l) both first second = (both v first.0 second.0, all_both P Q R l both first.1 second.1)

@@ -50,7 +50,7 @@ seized st me n after = (v : PassView) → me ≡ (v ∷ [], []) →
     × (n ≢ 0 → after ≡ (missed v ∷ [], []))
 
 abbrev pub read : Step History → MyMe → ℕ → MyMe → Type 0
-read st me n after = (v : PassView) (history : History) → me ≡ with_history (holding v history) history →
+read st me n after = (v : PassView) (history : History) → me ≡ with_history v history → v.turn ≡ Held history →
     Begins v.seen history × IsHistoryOf (numbered v.seen 0).tube history × IsOf history (reading v history)
     × (after ≡ with_history (reading v history) history)
 
