@@ -76,18 +76,18 @@ module _ (about : Opening) where
   cuts id v s r at =
       let mine = all_one _ s.views id v at r.passes in
       rearranged s r (set s.views id (take 1 v) ++ drop 1 v ∷ [])
-          (λ f is. split_sum f is s.views id v at)
-          (all_push _ (set s.views id (take 1 v)) (drop 1 v)
-              (all_set _ s.views id (take 1 v) r.passes (all_take _ 1 v mine))
-              (all_drop _ 1 v mine))
+      (λ f is. split_sum f is s.views id v at)
+      (all_push _ (set s.views id (take 1 v)) (drop 1 v)
+      (all_set _ s.views id (take 1 v) r.passes (all_take _ 1 v mine))
+      (all_drop _ 1 v mine))
 
   pub joins : (id other : ℕ) (v w : List PassView) → Joins (IsCell about) id v other w (v ++ w) []
   joins id other v w s r at ne there =
       let mine = all_one _ s.views id v at r.passes in
       let theirs = all_one _ s.views other w (sym (set_else s.views id other (v ++ w) ne) ∙ there) r.passes in
       rearranged s r (set (set s.views id (v ++ w)) other [])
-          (λ f is. join_sum f is s.views id other v w at there)
-          (all_set _ (set s.views id (v ++ w)) other [] (all_set _ s.views id (v ++ w) r.passes (all_append _ v w mine theirs)) tt)
+      (λ f is. join_sum f is s.views id other v w at there)
+      (all_set _ (set s.views id (v ++ w)) other [] (all_set _ s.views id (v ++ w) r.passes (all_append _ v w mine theirs)) tt)
 
 -- the first of those that are left
 first_left : (opening : Tube) (n count : ℕ) → n < count → passes_from opening n (count - n) ≡ new_pass opening n ∷ passes_from opening (n + 1) (count - (n + 1))

@@ -10,7 +10,7 @@ pub join_seat-requires : goal.join_seat-requires
 join_seat-requires c =
     let name = c.args.shared.now.table_id in
     let first = All-head (IsAlone name) c.in-Some.other (into_iter_items c.next.new.self)
-        (All-same (IsAlone name) _ (into_iter_items c.loop-other.other-iterator) (sym c.in-Some.ensures.steps.0) c.loop-other.invariant.others) in
+    (All-same (IsAlone name) _ (into_iter_items c.loop-other.other-iterator) (sym c.in-Some.ensures.steps.0) c.loop-other.invariant.others) in
     (c.loop-other.invariant.table, first.table, ap (λ (me : MyMe). me.1) first.me, omega arith, joins _ _ _ _ _)
 
 pub loop-other-preserved : goal.loop-other-preserved
