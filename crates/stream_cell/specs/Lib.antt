@@ -1,2 +1,7 @@
+pub mod Cell
+pub mod Dealing
 pub mod Flat
 pub mod Histories
+pub mod Passes
+pub mod Seats
+pub mod Steps

@@ -21,7 +21,7 @@ pub struct Uses {
 /// What meeting the last version with a renewal answers.
 #[derive(Clone, Copy, Debug, PartialEq, Eq)]
 pub enum CellMet {
-    /// Another has the turn, and nothing was met. Versions that one worker keeps are never busy.
+    /// Another has the turn, and nothing was met. A history that no others share is never busy.
     Busy,
     /// The first place, by tick and then by channel, at which the two have no number in common.
     Empty { tick: u32, channel: u32 },
@@ -31,4 +31,13 @@ pub enum CellMet {
     Full { number: u32 },
     /// The meet was appended, with this number and this stamp.
     Narrowed { number: u32, stamp: u64 },
+}
+
+/// What a look answers.
+#[derive(Clone, Copy, Debug, PartialEq, Eq)]
+pub enum Look {
+    /// Another has the turn, and nothing was read.
+    Busy,
+    /// The number and the stamp of the last version, whose tube was copied.
+    Seen { number: u32, stamp: u64 },
 }

@@ -1,0 +1,42 @@
+use Rattle.std.proofs.Common.{rules, true≢false, eq-eqb, eqb-true, refl, sym, ◌∙◌, subst}
+use mathlib.Core.Option.{none}
+use Rattle.atomic_table.specs.Table.{Allows, step}
+use Rattle.stream_cell.specs.Cell.{IsCell}
+use Rattle.stream_cell.specs.Passes.{missed}
+use Rattle.stream_cell.specs.Seats.{pass_view}
+use Rattle.stream_cell.specs.Steps.{MyMe, seized}
+use Rattle.stream_cell.proofs.Seating.{seated}
+use Rattle.stream_cell.proofs.Stepping.{seizes}
+use Rattle.stream_cell.proofs.passes.StreamCell.seize.Goals as goal
+
+pub swap-requires : goal.swap-requires
+swap-requires c =
+    let table = c.args.self.now.table.shared in (
+      c.requires.table,
+      search rules,
+      subst (λ (me : MyMe). Allows (IsCell table.key) table.table_id.slots c.args.pass.now.seat.id me 0 (λ _. 1) (seized (step table.table_id.slots 0 1 0 none) me))
+          (sym c.requires.me) (seizes table.key _ _ (step table.table_id.slots 0 1 0 none) (pass_view c.args.pass.now) c.requires.free),
+    )
+
+pub returns-clause-busy : goal.returns-clause-busy
+returns-clause-busy c = λ busy. seated c.args.self.now _ (missed (pass_view c.args.pass.now))
+    (record {
+      table = c.swap.ensures.0 ∙ c.requires.table;
+      me = (c.swap.ensures.2 (pass_view c.args.pass.now) c.requires.me).1 (λ e. true≢false (sym (eq-eqb c.swap.result 0 e) ∙ busy));
+      number = c.requires.number;
+      some = c.requires.some;
+      opens = c.requires.opens;
+    }) refl
+
+pub returns-clause-held : goal.returns-clause-held
+returns-clause-held c = λ held.
+    let told = (c.swap.ensures.2 (pass_view c.args.pass.now) c.requires.me).0 (eqb-true c.swap.result 0 held) in (
+      told.0,
+      record {
+        table = c.swap.ensures.0 ∙ c.requires.table;
+        me = told.1;
+        number = c.requires.number;
+        some = c.requires.some;
+        opens = c.requires.opens;
+      },
+    )
