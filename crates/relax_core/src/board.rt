@@ -20,7 +20,7 @@ use crate::givers::giver;
 use crate::lines::Lines;
 use crate::making::{append, met, missing};
 use crate::order::{STREAMS, flow_order};
-use crate::refs::{Refs, remembers};
+use crate::refs::remembers;
 use crate::room::Room;
 use crate::sizes::unit_count;
 use crate::window::Window;
@@ -29,7 +29,7 @@ use renewal::WindowPlan;
 use std::alloc::{AllocError, Global};
 use std::marker::Model;
 use thiserror::Error;
-use tubes::Tube;
+use tubes::{Refs, Tube};
 
 /// What a step did.
 #[derive(Clone, Copy, Debug, PartialEq, Eq)]
@@ -210,12 +210,7 @@ impl<'p> Board<'p> {
 
     /// Renews a stream from the versions with these numbers of what its unit reads, and appends the meet with its last
     /// version where that is narrower. Where it was last renewed from the same numbers nothing is left to do.
-    pub fn step(
-        &mut self,
-        _alloc: Global,
-        stream: u32,
-        versions: &[u32],
-    ) -> Result<Stepped, StepFault>
+    pub fn step(&mut self, stream: u32, versions: &[u32]) -> Result<Stepped, StepFault>
         requires stream { stream < length (streams_of self.old.plan.parts) }
         requires given { IsOutputOf (origin_of (plant_of self.old.plan.parts) stream) }
         requires counted { length versions.now ≡ length (reads_for self.old.plan stream) }

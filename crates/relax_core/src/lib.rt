@@ -26,5 +26,5 @@ pub use laws::{
     quiet_boards_carry_the_run, steps_keep_boards,
 };
 pub use made::{AdoptFault, Made};
-pub use refs::Refs;
+pub use tubes::Refs;
 pub use window::Window;

@@ -7,12 +7,11 @@ ghost use Rattle.relax_core.specs.Judging.{Compares};
 use crate::board::{Board, StepFault, Stepped};
 use crate::givers::inputs_for;
 use crate::laws::boards_have_versions;
-use crate::refs::Refs;
 use quant::Band;
 use std::alloc::{AllocError, Global};
 use std::marker::Model;
 use thiserror::Error;
-use tubes::Tube;
+use tubes::{Refs, Tube};
 
 /// Version `number` of a stream, made from the version before it and the versions `refs` of what its unit reads, in the
 /// order of the input ports. Its stamp orders the versions of different streams; adoption does not read it.
@@ -154,6 +153,6 @@ impl<'p> Board<'p> {
         ensures { Adopts result self.old made.now self.new }
     {
         self.judge(alloc, made)?;
-        Ok(self.step(alloc, made.stream, made.refs.as_slice())?)
+        Ok(self.step(made.stream, made.refs.as_slice())?)
     }
 }

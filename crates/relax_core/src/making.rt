@@ -13,10 +13,9 @@ ghost use Rattle.relax_core.specs.Making.{FindsMissing, Appends};
 use crate::board::{StepFault, StepRow, Stepped};
 use crate::givers::reads;
 use crate::lines::Lines;
-use crate::refs::Refs;
 use renewal::WindowPlan;
 use std::alloc::{AllocError, Global};
-use tubes::Tube;
+use tubes::{Refs, Tube};
 
 /// The first input port at which the named version is not there.
 fn first_missing(lines: &Lines, reads: &[u32], versions: &[u32]) -> Option<StepFault>

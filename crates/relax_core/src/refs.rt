@@ -1,7 +1,9 @@
+//! Version numbers that are remembered.
+
 ghost use Rattle.std.specs.Prelude.{◌≡◌, Some};
 ghost use Rattle.std.specs.Bool.{OnTrue};
 
-pub use tubes::Refs;
+use tubes::Refs;
 
 /// Whether these are the numbers that are remembered, where any are.
 pub(crate) fn remembers(memory: &Option<Refs>, numbers: &[u32]) -> bool

@@ -3,10 +3,10 @@
 use crate::givers::reads;
 use crate::line::same_ticks;
 use crate::lines::Lines;
-use crate::refs::{Refs, remembers};
+use crate::refs::remembers;
 use renewal::{Inputs, Outputs, WindowPlan, renew, renew_from};
 use std::alloc::{AllocError, Global};
-use tubes::Tube;
+use tubes::{Refs, Tube};
 
 /// Room for the renewals of one unit.
 #[derive(Drop)]

@@ -18,7 +18,7 @@ use crate::givers::{reads, source_of};
 use crate::order::STREAMS;
 use plant::StreamSource;
 use renewal::WindowPlan;
-use std::alloc::{AllocError, Global};
+use std::alloc::AllocError;
 
 /// The most streams that a unit reads.
 pub(crate) const READS: usize = 8;
@@ -63,12 +63,7 @@ impl<'p> Board<'p> {
     }
 
     /// Makes the step of a stream from the last versions of what its unit reads.
-    fn step_from_last(
-        &mut self,
-        alloc: Global,
-        unit: u32,
-        stream: u32,
-    ) -> Result<Stepped, AllocError>
+    fn step_from_last(&mut self, unit: u32, stream: u32) -> Result<Stepped, AllocError>
         requires stream { stream < length (streams_of self.old.plan.parts) }
         requires given { IsGivenBy (origin_of (plant_of self.old.plan.parts) stream) unit }
         ensures { StepsThere result self.old (last_step (window_of self.old.plan) self.old.versions unit stream) self.new }
@@ -76,7 +71,7 @@ impl<'p> Board<'p> {
         let _ = self.plan();
         let mut numbers = [0; READS];
         let count = self.last_numbers(unit, &mut numbers);
-        match self.step(alloc, stream, &numbers[..count]) {
+        match self.step(stream, &numbers[..count]) {
             Ok(stepped) => Ok(stepped),
             Err(StepFault::NoMemory) => Err(AllocError),
             Err(StepFault::NoSuchVersion { .. }) => unreachable!(),
@@ -92,13 +87,13 @@ impl<'p> Board<'p> {
     }
 
     /// The turn of a stream in a sweep: tells whether it narrowed.
-    fn turn(&mut self, alloc: Global, stream: u32) -> Result<bool, AllocError>
+    fn turn(&mut self, stream: u32) -> Result<bool, AllocError>
         requires { stream < length (streams_of self.old.plan.parts) }
         ensures { Turns result self.old stream self.new }
     {
         match self.source(stream) {
             StreamSource::Feed { .. } => Ok(false),
-            StreamSource::Port { unit, .. } => match self.step_from_last(alloc, unit, stream)? {
+            StreamSource::Port { unit, .. } => match self.step_from_last(unit, stream)? {
                 Stepped::Narrowed { .. } => Ok(true),
                 Stepped::Same => Ok(false),
             },
@@ -106,13 +101,13 @@ impl<'p> Board<'p> {
     }
 
     /// Gives these streams their turns, and tells whether one narrowed.
-    fn sweep(&mut self, alloc: Global, order: &[u32]) -> Result<bool, AllocError>
+    fn sweep(&mut self, order: &[u32]) -> Result<bool, AllocError>
         requires { IsOrder self.old.plan order.now }
         ensures { Sweeps result self.old order.now self.new }
     {
         let mut narrowed = false;
         for stream in order {
-            if self.turn(alloc, *stream)? {
+            if self.turn(*stream)? {
                 narrowed = true;
             }
         }
@@ -120,7 +115,7 @@ impl<'p> Board<'p> {
     }
 
     /// Renews every unit in sweeps along the flow from the last versions, until a sweep narrows nothing.
-    pub fn settle(&mut self, alloc: Global) -> Result<(), AllocError>
+    pub fn settle(&mut self) -> Result<(), AllocError>
         ensures quiet { OnOk result (IsQuiet (window_of self.new.plan) self.new.versions) }
         ensures longer { GoesOn self.old self.new }
         ensures few { (s : ℕ) → s < length (streams_of self.old.plan.parts) →
@@ -131,7 +126,7 @@ impl<'p> Board<'p> {
         let count = self.write_order(&mut room);
         let order = &room[..count];
         for _ in 0..self.places() {
-            if !self.sweep(alloc, order)? {
+            if !self.sweep(order)? {
                 return Ok(());
             }
         }

@@ -1,10 +1,7 @@
 //! A plant that is stepped tick by tick.
 
-ghost use Rattle.std.specs.Prelude.{◌≡◌};
-ghost use Rattle.window_accept.specs.Session.{end_by};
-
 use crate::window::step_window;
-use feeds::{FeedFault, FeedReader, given_feeds_can_be_planned};
+use feeds::{FeedReader, given_feeds_can_be_planned};
 use flow_edge::Source;
 use plant::{Plant, Row};
 use plant_names::Text;
@@ -49,16 +46,6 @@ impl Model for Stepper {
 struct Stepped {
     text: Text,
     row: Row,
-}
-
-/// The end of a session that has no feeds.
-fn end_by(fault: FeedFault) -> WindowEnd
-    ensures { result ≡ end_by fault }
-{
-    match fault {
-        FeedFault::NoMemory => WindowEnd::NoMemory,
-        fault => WindowEnd::Feed { fault },
-    }
 }
 
 impl Stepper {
@@ -141,7 +128,7 @@ impl Stepper {
                 windows_carry_the_run();
                 self.stepped(alloc, tubes.as_slice())
             }
-            Err(fault) => Err(end_by(fault)),
+            Err(fault) => Err(WindowEnd::from(fault)),
         }
     }
 

@@ -36,7 +36,7 @@ fn quiet_board<'p, R: Threads + Sync, C: Chaos>(
     let made = chaos.chaos(rt, alloc, plan)?;
     let mut board = Board::open(alloc, plan)?;
     adopt_front(alloc, &mut board, made.as_slice())?;
-    board.settle(alloc)?;
+    board.settle()?;
     Ok(board)
 }
 

@@ -10,7 +10,6 @@ use std::test::Fail;
 
 /// What a step answers, where the stream is there and is given by a unit of two inputs.
 fn stepped(
-    alloc: Global,
     board: &mut Board<'_>,
     stream: u32,
     versions: [u32; 2],
@@ -23,7 +22,7 @@ fn stepped(
     if reads.len() != versions.len() {
         return None;
     }
-    Some(board.step(alloc, stream, &versions))
+    Some(board.step(stream, &versions))
 }
 
 /// A step on the board, the versions that it reads, and what it answers.
@@ -60,7 +59,7 @@ fn try_steps<R: Abort>(rt: &R, alloc: Global, plant: &Plant) -> Result<(), Fail>
     let plan = window_in(alloc, plant, 2)?;
     let mut board = Board::open(alloc, &plan)?;
     for (stream, versions, answer) in CASES {
-        assert!(rt; stepped(alloc, &mut board, stream, versions) == answer);
+        assert!(rt; stepped(&mut board, stream, versions) == answer);
     }
     assert_eq!(rt; board.rows().len(), 2);
     Ok(())
@@ -88,7 +87,7 @@ fn is_worked<R: Abort>(rt: &R, board: &Board<'_>) {
 fn settles<R: Abort>(rt: &R, alloc: Global, plant: &Plant) -> Result<(), Fail> {
     let plan = window_in(alloc, plant, 3)?;
     let mut board = Board::open(alloc, &plan)?;
-    board.settle(alloc)?;
+    board.settle()?;
     is_worked(rt, &board);
     Ok(())
 }

@@ -24,7 +24,7 @@ fn has_versions(board: &Board<'_>, streams: u32, versions: u32) -> Result<(), Fa
 fn settles_with(alloc: Global, plant: &Plant, streams: u32, versions: u32) -> Result<(), Fail> {
     let plan = window_in(alloc, plant, 3)?;
     let mut board = Board::open(alloc, &plan)?;
-    board.settle(alloc)?;
+    board.settle()?;
     has_versions(&board, streams, versions)
 }
 

@@ -38,5 +38,5 @@ pub returns-in-Err-clause-err : goal.returns-in-Err-clause-err
 returns-in-Err-clause-err g c =
     let now = c.args.self.now in
     unfed-end now _ _ (going-on _ now _ c.self.view_is (c.behind-self.view_is ∙ c.parts.ensures.parts)
-    c.self.invariant.session_is c.requires.end c.if-self-parts.false) c.in-Err.fault c.end_by.result c.end_by.ensures
+    c.self.invariant.session_is c.requires.end c.if-self-parts.false) c.in-Err.fault c.from.result c.from.ensures
     (asked _ now c.next_ticks.result _ _ _ c.self.view_is c.next_ticks.ensures c.in-Err.ensures.gives)
