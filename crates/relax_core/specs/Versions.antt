@@ -4,14 +4,9 @@ use Rattle.std.specs.Prelude.{ℕ, ◌+◌, ◌≤◌, zero, suc, List, [], ◌�
 use Rattle.std.specs.List.{AllByRecursion}
 use Rattle.quant.specs.Interval.{Interval}
 use Rattle.relaxation.specs.Tube.{Tube}
+pub use Rattle.tubes.specs.Cut.{bands_from}
 use Rattle.relax_core.specs.declared.line.Change.{Change}
 use Rattle.relax_core.specs.declared.line.Line.{Line}
-
--- the bands of a tube from a tick on, tick by tick
-abbrev pub bands_from : ℕ → Tube → List Interval
-bands_from t [] = []
-bands_from zero (row ∷ rows) = row ++ bands_from zero rows
-bands_from (suc t) (row ∷ rows) = bands_from t rows
 
 -- the tube with other bands from a tick on
 abbrev pub restored : ℕ → Tube → List Interval → Tube

@@ -42,10 +42,7 @@ fn keep(replaced: &mut Vec<Band>, tube: &Tube, from: u32) -> Result<(), AllocErr
     ensures grows { (more : List Interval) × (replaced.new.items ≡ replaced.old.items ++ more) }
     ensures kept { OnOk result (replaced.new.items ≡ replaced.old.items ++ bands_from from tube.now) }
 {
-    for tick in from..tube.ticks() {
-        replaced.extend_from_slice(tube.row(tick))?;
-    }
-    Ok(())
+    replaced.extend_from_slice(tube.rows_from(from))
 }
 
 /// Puts bands that were kept in the place of a tube's from a tick on.

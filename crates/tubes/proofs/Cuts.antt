@@ -2,13 +2,13 @@
 use Rattle.std.proofs.Common.{◌≡◌, ℕ, zero, suc, ◌+◌, ◌*◌, ◌<◌, ◌≤◌, List, [], ◌∷◌, ◌++◌, length, map, take, drop, replicate, refl, sym, subst, ap, ◌∙◌, arith, true, false}
 use Rattle.std.specs.Prelude.{◌&&◌, slice_set, Bool, int_le}
 use Rattle.std.specs.List.{sum_by}
-use Rattle.std.proofs.lemmas.List.{length-append, drop-drop, length-drop, length-take-le, take-append-le, drop-append-le}
+use Rattle.std.proofs.lemmas.List.{length-append, take-append-drop, drop_all, drop-drop, length-drop, length-take-le, take-append-le, drop-append-le}
 use Rattle.std.proofs.Math.Seq.{take-length, take-append_seam, drop-append_seam}
 use Rattle.std.proofs.lemmas.List.Sums.{sum_by-cons, sum_by-take-drop}
 use Rattle.quant.proofs.Calls.{same_cons}
 use Rattle.quant.specs.Interval.{Interval, AllBands}
 use Rattle.relaxation.specs.Tube.{at, all_inside, is_within, meet_bands, meet, HasNumbers, width}
-use Rattle.tubes.specs.Cut.{cut}
+use Rattle.tubes.specs.Cut.{cut, bands_from}
 use Rattle.tubes.specs.Flat.{nth, reach, written}
 
 -- what is left after the first of n + 1 ticks, and that tick
@@ -164,3 +164,15 @@ cut_written (suc n) c (suc t) xs row h e s =
     same_cons _ _ _ _ (take-first c (t * c) (suc t * c) xs row start room)
     (ap (cut n c) (drop-first c (t * c) (suc t * c) xs row start room)
     ∙ cut_written n c t (drop c xs) row (omega arith) e (dropped n c xs s))
+
+-- the bands from a tick on are the end of the list
+pub cut_from : (t n c : ℕ) (xs : List Interval) → length xs ≡ n * c → bands_from t (cut n c xs) ≡ drop (t * c) xs
+cut_from t zero c xs e = sym (drop_all (t * c) xs (omega (arith, e)))
+cut_from zero (suc n) c xs e =
+    let first : 0 * c ≡ 0 = omega arith in
+    ap (λ (ys : List Interval). take c xs ++ ys)
+    (cut_from zero n c (drop c xs) (dropped n c xs e) ∙ ap (λ k. drop k (drop c xs)) first)
+    ∙ take-append-drop c xs ∙ sym (ap (λ k. drop k xs) first)
+cut_from (suc t) (suc n) c xs e =
+    let next : c + t * c ≡ suc t * c = omega arith in
+    cut_from t n c (drop c xs) (dropped n c xs e) ∙ drop-drop (t * c) c xs ∙ ap (λ k. drop k xs) next

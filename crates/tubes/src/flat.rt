@@ -38,6 +38,13 @@ pub(crate) fn row(bands: &[Band], start: usize, channels: u32) -> &[Band]
     &bands[start..start + channels as usize]
 }
 
+/// The bands from a place on.
+pub(crate) fn rest(bands: &[Band], start: usize) -> &[Band]
+    ensures { result.now ≡ drop start bands.now }
+{
+    &bands[start.min(bands.len())..]
+}
+
 /// Puts other bands in the place of as many.
 pub(crate) fn write(bands: &mut [Band], start: usize, row: &[Band])
     requires { start + length row.now ≤ length bands.old }

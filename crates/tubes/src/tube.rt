@@ -37,6 +37,7 @@ impl Model for Tube {
 impl Tube {
     ghost use Rattle.std.specs.Prelude.{◌≡◌, ◌↔◌, ◌<◌, ◌^◌, true, length, replicate, slice_set, IfOk, IfSome, IfNone};
     ghost use Rattle.relaxation.specs.Tube.{at, is_within, width};
+    ghost use Rattle.tubes.specs.Cut.{bands_from};
     ghost use Rattle.tubes.specs.Shape.{HasShapeOf, band_at, set_at};
     ghost use Rattle.tubes.specs.Meeting.{Meets, IsFirstDifference};
 
@@ -145,6 +146,13 @@ impl Tube {
             flat::place(tick, self.channels, 0),
             self.channels,
         )
+    }
+
+    /// The bands of all channels from a tick on, tick by tick.
+    pub fn rows_from(&self, tick: u32) -> &[Band]
+        ensures { result.now ≡ bands_from tick self.now }
+    {
+        flat::rest(self.bands.as_slice(), flat::place(tick, self.channels, 0))
     }
 
     /// Puts other bands in the place of those of all channels at a tick.
