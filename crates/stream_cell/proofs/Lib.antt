@@ -1,3 +1,4 @@
+pub mod Answering
 pub mod Flats
 pub mod Keeping
 pub mod Growing
