@@ -1,4 +1,7 @@
 pub mod Answering
+pub mod Closing
+pub mod Dealing
+pub mod Opened
 pub mod Flats
 pub mod Keeping
 pub mod Growing

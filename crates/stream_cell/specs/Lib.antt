@@ -1,4 +1,5 @@
 pub mod Cell
+pub mod Dealing
 pub mod Flat
 pub mod Histories
 pub mod Passes

@@ -1,8 +1,9 @@
 //! A cell that passes take turns at.
 
-ghost use Rattle.std.specs.Prelude.{◌≡◌, ◌<◌, ◌≤◌, ◌^◌, All, IfOk, length, map};
+ghost use Rattle.std.specs.Prelude.{◌≡◌, ◌<◌, ◌≤◌, ◌^◌, ◌++◌, [], All, IfOk, length, map};
 ghost use Rattle.tubes.specs.Shape.{HasShapeOf};
 ghost use Rattle.stream_cell.specs.Cell.{passes_from};
+ghost use Rattle.stream_cell.specs.Dealing.{IsAlone, IsDealt};
 ghost use Rattle.stream_cell.specs.Passes.{Looks, LooksOrStays, Meets, MeetsOrStays};
 ghost use Rattle.stream_cell.specs.Seats.{IsClosedBy, IsPassOf, opening_of, pass_view, passes_of};
 
@@ -24,7 +25,12 @@ fn deal(
     shared: &CellShared,
     mut seat: CellSeat,
     count: u32,
-) -> Result<Vec<CellPass>, AllocError> {
+) -> Result<Vec<CellPass>, AllocError>
+    requires table { (seat.table_id ≡ shared.now.table_id) × (shared.now.table_id.words ≡ 2) }
+    requires seat { seat.me ≡ (passes_from shared.now.key.tube 0 count, []) }
+    ensures views { IfOk result (λ passes. map pass_view passes.items ≡ passes_from shared.now.key.tube 0 count) }
+    ensures passes { IfOk result (λ passes. All (IsDealt shared.now.table_id shared.now.key.tube) passes.items) }
+{
     let mut passes = Vec::with_capacity(alloc, count as usize)?;
     for number in 0..count {
         let others = shared.split_seat::<FirstAndRest>(&mut seat);
@@ -35,7 +41,13 @@ fn deal(
 }
 
 // One seat that stands for all passes.
-fn join_all(shared: &CellShared, mut seat: CellSeat, others: Vec<CellPass>) -> CellSeat {
+fn join_all(shared: &CellShared, mut seat: CellSeat, others: Vec<CellPass>) -> CellSeat
+    requires table { (seat.table_id ≡ shared.now.table_id) × (shared.now.table_id.words ≡ 2) }
+    requires out { seat.me.1 ≡ [] }
+    requires others { All (IsAlone shared.now.table_id) others.items }
+    ensures table { result.table_id ≡ shared.now.table_id }
+    ensures all { result.me ≡ (seat.me.0 ++ map pass_view others.items, []) }
+{
     for other in others {
         shared.join_seat::<Together>(&mut seat, other.seat);
     }

@@ -1,6 +1,6 @@
 //! A cell and its passes.
 
-ghost use Rattle.std.specs.Prelude.{◌≡◌};
+ghost use Rattle.std.specs.Prelude.{◌≡◌, ◌≤◌};
 
 use crate::history::History;
 use crate::view::{CellTable, Opening, PassView};
@@ -16,6 +16,7 @@ pub struct StreamCell {
     pub(crate) table: Table<History, LinkedList<PassView>, Opening, CellTable, Global>,
     ghost words: { table.shared.table_id.words ≡ 2 },
     ghost slots: { table.shared.table_id.slots ≡ 1 },
+    ghost some: { 1 ≤ table.shared.key.passes },
 }
 
 /// What one worker sees a stream's versions by, and makes versions with.
