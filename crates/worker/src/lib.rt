@@ -6,11 +6,13 @@
 #![tactic(auto)]
 
 mod hand;
+mod laws;
 mod looking;
 mod meeting;
 mod room;
 mod work;
 
 pub use hand::Hand;
+pub use laws::known_histories_are_sound;
 pub use room::Room;
 pub use work::work;
