@@ -9,8 +9,8 @@ mod hand;
 mod looking;
 mod meeting;
 mod room;
-mod work;
+mod turns;
 
 pub use hand::Hand;
 pub use room::Room;
-pub use work::work;
+pub use turns::work;
