@@ -1,11 +1,16 @@
 -- Words of the proofs: a reader of the contracts needs none of them.
 -- What one turn of a worker has seen, and the room that it has.
 use Rattle.std.specs.Prelude.{◌≡◌, ◌<◌, ◌≤◌, ℕ, List, [], ◌∷◌, length, slice_index_or}
-use Rattle.relaxation.specs.Tube.{Tube, IsWithin}
+use Rattle.flowsheet.specs.Plant.{port, origin_of}
+use Rattle.relaxation.specs.Tube.{Tube}
+use Rattle.relaxation.specs.Window.{renewal}
 use Rattle.relaxation.specs.History.{History, history_of, numbered}
 use Rattle.plant_units.specs.Units.{units_of}
+use Rattle.plant.specs.PlantOf.{plant_of}
+use Rattle.tubes.specs.Shape.{HasShapeOf}
 use Rattle.renewal.specs.Plan.{PlanOf, window_of}
-use Rattle.renewal.specs.Room.{AreOpened, HasRoomFor, planned}
+use Rattle.renewal.specs.Room.{AreOpened, HasRoomFor, RenewalOf, planned, renewal_of}
+use Rattle.stream_cell.specs.declared.head.Uses.{Uses}
 use Rattle.stream_cell.specs.declared.head.Look.{Look}
 use Rattle.stream_cell.specs.declared.head.Look.TheVariants.{Busy, Seen}
 use Rattle.worker.specs.declared.room.UnitRoom.{UnitRoom}
@@ -31,6 +36,22 @@ AreSeen histories stamp (s ∷ streams) [] tubes = ⊥
 AreSeen histories stamp (s ∷ streams) (k ∷ numbers) [] = ⊥
 AreSeen histories stamp (s ∷ streams) (k ∷ numbers) (tube ∷ tubes) =
     IsSeen (history_of histories s) k stamp tube × AreSeen histories stamp streams numbers tubes
+
+-- it is a unit's renewal from the versions that are used, which are there
+pub record IsRenewedFrom (plan : PlanOf) (histories : List History) (u : ℕ) (uses : Uses) (outputs : RenewalOf) : Type 0 where
+  pub tubes : List Tube
+  pub seen : AreSeen histories uses.base (planned plan u).reads uses.refs tubes
+  pub renewed : outputs ≡ renewal_of plan u tubes
+
+-- it is the renewal of a stream from the versions that are used, which are there
+pub record IsMadeOf (plan : PlanOf) (histories : List History) (s : ℕ) (uses : Uses) (made : Tube) : Type 0 where
+  pub unit : ℕ
+  pub output : ℕ
+  pub tubes : List Tube
+  pub origin : origin_of (plant_of plan.parts) s ≡ port unit output
+  pub seen : AreSeen histories uses.base (planned plan unit).reads uses.refs tubes
+  pub renewed : made ≡ renewal (window_of plan) unit output tubes
+  pub shape : HasShapeOf ((window_of plan).opening s) made
 
 -- the unit may be renewed in it
 pub record IsUnitRoom (plan : PlanOf) (u : ℕ) (room : UnitRoom) : Type 0 where

@@ -10,9 +10,9 @@ mod laws;
 mod looking;
 mod meeting;
 mod room;
-mod work;
+mod turns;
 
 pub use hand::Hand;
 pub use laws::known_histories_are_sound;
 pub use room::Room;
-pub use work::work;
+pub use turns::work;

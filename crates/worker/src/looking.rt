@@ -1,12 +1,13 @@
 //! Looks at the last versions of what a unit reads.
 
 ghost use Rattle.std.specs.Prelude.{◌≡◌, ◌<◌, ◌≤◌, IfSome, length};
+ghost use Rattle.std.specs.List.{AllByRecursion};
+ghost use Rattle.relaxation.specs.Tube.{IsWithin};
 ghost use Rattle.relaxation.specs.History.{AllBegin, history_of};
 ghost use Rattle.plant_streams.specs.Streams.{streams_of};
 ghost use Rattle.plant_units.specs.Units.{units_of};
-ghost use Rattle.tubes.specs.Shape.{HasShapeOf};
 ghost use Rattle.renewal.specs.Plan.{window_of};
-ghost use Rattle.renewal.specs.Room.{planned, AreOpened};
+ghost use Rattle.renewal.specs.Room.{planned};
 ghost use Rattle.worker.specs.Knowing.{IsHand, seen_by};
 ghost use Rattle.worker.specs.Looking.{AreSeen, IsUnitRoom, Shows};
 
@@ -17,6 +18,16 @@ use tubes::{Refs, Tube};
 
 /// The most streams that a unit reads.
 const READS: usize = 8;
+
+/// The streams that a unit reads.
+fn reads<'p>(plan: &WindowPlan<'p>, unit: u32) -> &'p [u32]
+    requires { unit < length (units_of plan.now.parts) }
+    ensures reads { result.now ≡ (planned plan.now unit).reads }
+    ensures few { length result.now ≤ 8 }
+    ensures streams { AllByRecursion (λ s. s < length (streams_of plan.now.parts)) result.now }
+{
+    plan.unit(unit).inputs()
+}
 
 /// Looks at the last version of a stream.
 fn look_at<C: CellLike>(
@@ -29,8 +40,9 @@ fn look_at<C: CellLike>(
 ) -> Look
     requires stream { stream < length (streams_of plan.now.parts) }
     requires hand { IsHand C.opening C.is_pass plan.now worker cells.now passes.old.items }
-    requires shape { HasShapeOf into.old ((window_of plan.now).opening stream) }
+    requires opened { IsWithin into.old ((window_of plan.now).opening stream) }
     ensures hand { IsHand C.opening C.is_pass plan.now worker cells.now passes.new.items }
+    ensures opened { IsWithin into.new ((window_of plan.now).opening stream) }
     ensures begins { AllBegin (seen_by passes.old.items) (seen_by passes.new.items) }
     ensures shows { Shows result (history_of (seen_by passes.new.items) stream) into.old into.new }
 {
@@ -56,7 +68,7 @@ pub(crate) fn look_all<C: CellLike>(
 {
     let mut numbers = [0; READS];
     let mut base = 0;
-    let streams = plan.unit(unit).inputs();
+    let streams = reads(plan, unit);
     for (port, stream) in streams.iter().enumerate() {
         let tube = room.inputs.port(port as u32);
         match look_at(plan, worker, cells, passes, *stream, tube) {

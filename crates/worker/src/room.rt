@@ -8,6 +8,13 @@ use renewal::{Inputs, Outputs, WindowPlan};
 use std::alloc::{AllocError, Global};
 use tubes::Refs;
 
+/// How many units a plan has.
+pub(crate) fn unit_count(plan: &WindowPlan<'_>) -> u32
+    ensures { result ≡ length (units_of plan.now.parts) }
+{
+    plan.plant().units().len() as u32
+}
+
 /// Room for the renewals of one unit.
 #[derive(Drop)]
 pub(crate) struct UnitRoom {
@@ -28,9 +35,11 @@ impl UnitRoom {
         requires { unit < length (units_of plan.now.parts) }
         ensures { IfOk result (IsUnitRoom plan.now unit) }
     {
+        let inputs = Inputs::room(alloc, plan, unit)?;
+        let outputs = Outputs::room(alloc, plan, unit)?;
         Ok(UnitRoom {
-            inputs: Inputs::room(alloc, plan, unit)?,
-            outputs: Outputs::room(alloc, plan, unit)?,
+            inputs,
+            outputs,
             renewed: None,
         })
     }
@@ -49,9 +58,8 @@ impl Room {
     pub fn for_plan(alloc: Global, plan: &WindowPlan<'_>) -> Result<Self, AllocError>
         ensures { IfOk result (IsRoom plan.now) }
     {
-        let count = plan.plant().units().len() as u32;
-        let mut units = Vec::with_capacity(alloc, count as usize)?;
-        for unit in 0..count {
+        let mut units = Vec::new(alloc);
+        for unit in 0..unit_count(plan) {
             units.push(UnitRoom::new(alloc, plan, unit)?)?;
         }
         Ok(Room { units })

@@ -8,7 +8,7 @@ ghost use Rattle.worker.specs.Looking.{IsRoom, IsUnitRoom};
 use crate::hand::Hand;
 use crate::looking::look_all;
 use crate::meeting::meet_all;
-use crate::room::{Room, UnitRoom};
+use crate::room::{Room, UnitRoom, unit_count};
 use flow_edge::Gate;
 use renewal::{WindowPlan, renew};
 use stream_cell::{CellLike, CellPass};
@@ -64,7 +64,8 @@ pub fn work<C: CellLike, D: Desk, G: Gate>(
     ensures hand { IsHand C.opening C.is_pass plan.now worker cells.now hand.new.passes.items }
     ensures room { IsRoom plan.now room.new }
 {
-    for turns in 0..u64::MAX {
+    let most = 32 * u64::from(unit_count(plan));
+    for turns in 0..most + 1 {
         gate.at_turn(worker, turns);
         let Some(unit) = desk.next(seat) else {
             return;
