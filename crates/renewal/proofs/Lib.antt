@@ -1,3 +1,4 @@
+pub mod Counts
 pub mod Givers
 pub mod Openings
 pub mod Renewed
