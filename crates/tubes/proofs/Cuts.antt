@@ -34,16 +34,16 @@ meet-nothing : (xs : List Interval) → meet_bands xs [] ≡ []
 meet-nothing [] = refl
 meet-nothing (x ∷ xs) = refl
 
-drop-meet : (c : ℕ) (xs ys : List Interval) → drop c (meet_bands xs ys) ≡ meet_bands (drop c xs) (drop c ys)
-drop-meet zero xs ys = refl
-drop-meet (suc c) [] ys = refl
-drop-meet (suc c) (x ∷ xs) [] = sym (meet-nothing (drop c xs))
-drop-meet (suc c) (x ∷ xs) (y ∷ ys) = drop-meet c xs ys
+pub drop_meet : (c : ℕ) (xs ys : List Interval) → drop c (meet_bands xs ys) ≡ meet_bands (drop c xs) (drop c ys)
+drop_meet zero xs ys = refl
+drop_meet (suc c) [] ys = refl
+drop_meet (suc c) (x ∷ xs) [] = sym (meet-nothing (drop c xs))
+drop_meet (suc c) (x ∷ xs) (y ∷ ys) = drop_meet c xs ys
 
 pub cut_meet : (n c : ℕ) (xs ys : List Interval) → cut n c (meet_bands xs ys) ≡ meet (cut n c xs) (cut n c ys)
 cut_meet zero c xs ys = refl
 cut_meet (suc n) c xs ys =
-    same_cons _ _ _ _ (take-meet c xs ys) (ap (cut n c) (drop-meet c xs ys) ∙ cut_meet n c (drop c xs) (drop c ys))
+    same_cons _ _ _ _ (take-meet c xs ys) (ap (cut n c) (drop_meet c xs ys) ∙ cut_meet n c (drop c xs) (drop c ys))
 
 and-assoc : (a b c : Bool) → ((a && b) && c) ≡ (a && (b && c))
 and-assoc true b c = refl
@@ -76,14 +76,14 @@ take-bands zero xs h = tt
 take-bands (suc c) [] h = tt
 take-bands (suc c) (x ∷ xs) h = (h.0, take-bands c xs h.1)
 
-drop-bands : (c : ℕ) (xs : List Interval) → AllBands xs → AllBands (drop c xs)
-drop-bands zero xs h = h
-drop-bands (suc c) [] h = tt
-drop-bands (suc c) (x ∷ xs) h = drop-bands c xs h.1
+pub drop_bands : (c : ℕ) (xs : List Interval) → AllBands xs → AllBands (drop c xs)
+drop_bands zero xs h = h
+drop_bands (suc c) [] h = tt
+drop_bands (suc c) (x ∷ xs) h = drop_bands c xs h.1
 
 pub cut_numbers : (n c : ℕ) (xs : List Interval) → AllBands xs → HasNumbers (cut n c xs)
 cut_numbers zero c xs h = tt
-cut_numbers (suc n) c xs h = (take-bands c xs h, cut_numbers n c (drop c xs) (drop-bands c xs h))
+cut_numbers (suc n) c xs h = (take-bands c xs h, cut_numbers n c (drop c xs) (drop_bands c xs h))
 
 -- the ticks' parts of the list
 pub cut_at : (n c t : ℕ) (xs : List Interval) → t < n → at (cut n c xs) t ≡ take c (drop (t * c) xs)

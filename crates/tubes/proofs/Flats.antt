@@ -4,28 +4,11 @@ use Rattle.std.proofs.lemmas.Bool.{cases_lt}
 use Rattle.std.proofs.lemmas.Int.{ints}
 use Rattle.std.proofs.lemmas.List.{get_or_default, length-append, length-drop}
 use Rattle.std.proofs.Math.Seq.{take-append_seam}
-use Rattle.std.specs.Prelude.{◌&&◌, int_le, slice_set}
+use Rattle.std.specs.Prelude.{slice_set}
 use Rattle.quant.proofs.Calls.{same_cons}
 use Rattle.quant.specs.Interval.{Interval, IsBand, AllBands}
-use Rattle.relaxation.specs.Tube.{all_inside, meet_bands}
+use Rattle.relaxation.specs.Tube.{meet_bands}
 use Rattle.tubes.specs.Flat.{common, has_number, nth, written}
-
--- the band at a place decides, and then those after it
-pub inside_left : (As Bs : List Interval) (i : ℕ) → i < length As → length As ≡ length Bs →
-    all_inside (drop i As) (drop i Bs)
-    ≡ (int_le (nth Bs i).lo (nth As i).lo && int_le (nth As i).hi (nth Bs i).hi) && all_inside (drop (suc i) As) (drop (suc i) Bs)
-inside_left [] Bs i h e = absurd (omega arith)
-inside_left (A ∷ As) [] i h e = cc
-inside_left (A ∷ As) (B ∷ Bs) zero h e = refl
-inside_left (A ∷ As) (B ∷ Bs) (suc i) h e = inside_left As Bs i (omega arith) (omega arith)
-
--- where none is left they lie in one another
-pub inside_done : (As Bs : List Interval) → length As ≡ length Bs →
-    all_inside (drop (length As) As) (drop (length As) Bs) ≡ true
-inside_done [] [] e = refl
-inside_done [] (B ∷ Bs) e = cc
-inside_done (A ∷ As) [] e = cc
-inside_done (A ∷ As) (B ∷ Bs) e = inside_done As Bs (omega arith)
 
 -- the meet at each place is the meet of the bands there
 pub meet_at : (As Bs : List Interval) (i : ℕ) → i < length As → length As ≡ length Bs →

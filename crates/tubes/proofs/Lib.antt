@@ -3,3 +3,4 @@ pub mod Cuts
 pub mod Places
 pub mod Shapes
 pub mod Meetings
+pub mod Fronts

@@ -5,7 +5,7 @@ ghost use Rattle.std.specs.List.{sum_by};
 ghost use Rattle.quant.specs.Interval.{Interval, AllBands, IsBand, point};
 ghost use Rattle.relaxation.specs.Tube.{all_inside, meet_bands};
 ghost use Rattle.tubes.specs.Cut.{cut};
-ghost use Rattle.tubes.specs.Flat.{IsFirstApart, IsFirstDifferent, common, has_number, nth, reach, written};
+ghost use Rattle.tubes.specs.Flat.{AreInsideBefore, IsFirstApart, IsFirstDifferent, IsFirstOutside, common, has_number, nth, reach, written};
 
 use quant::Band;
 use std::alloc::{AllocError, Global};
@@ -92,6 +92,17 @@ pub(crate) fn first_empty(bands: &[Band], others: &[Band]) -> Option<usize>
     None
 }
 
+/// The same, where the bands before a place lie in the others.
+pub(crate) fn first_empty_from(bands: &[Band], others: &[Band], start: usize) -> Option<usize>
+    requires counted { length bands.now ≡ length others.now }
+    requires start { start ≤ length bands.now }
+    requires inside { AreInsideBefore start bands.now others.now }
+    ensures { IsFirstApart result bands.now others.now }
+{
+    let place = first_empty(&bands[start..], &others[start..])?;
+    Some(start + place)
+}
+
 /// The first place at which two lists have different bands.
 pub(crate) fn first_difference(bands: &[Band], others: &[Band]) -> Option<usize>
     requires { length bands.now ≡ length others.now }
@@ -105,18 +116,26 @@ pub(crate) fn first_difference(bands: &[Band], others: &[Band]) -> Option<usize>
     None
 }
 
+/// The first place at which a band does not lie in the other.
+pub(crate) fn first_outside(bands: &[Band], others: &[Band]) -> Option<usize>
+    requires { length bands.now ≡ length others.now }
+    ensures { IsFirstOutside result bands.now others.now }
+{
+    for (place, band) in bands.iter().enumerate() {
+        let other = others[place];
+        if band.lo < other.lo || other.hi < band.hi {
+            return Some(place);
+        }
+    }
+    None
+}
+
 /// Whether each band lies in the one at its place.
 pub(crate) fn all_inside(bands: &[Band], others: &[Band]) -> bool
     requires { length bands.now ≡ length others.now }
     ensures { result ≡ all_inside bands.now others.now }
 {
-    for (place, band) in bands.iter().enumerate() {
-        let other = others[place];
-        if band.lo < other.lo || other.hi < band.hi {
-            return false;
-        }
-    }
-    true
+    first_outside(bands, others).is_none()
 }
 
 /// Leaves the numbers that both have at each place.
@@ -128,6 +147,17 @@ pub(crate) fn meet_bands(bands: &mut [Band], others: &[Band])
     for (place, other) in others.iter().enumerate() {
         bands[place] = common(bands[place], *other);
     }
+}
+
+/// The same, where the bands before a place lie in the others.
+pub(crate) fn meet_from(bands: &mut [Band], others: &[Band], start: usize)
+    requires shape { length bands.old ≡ length others.now }
+    requires start { start ≤ length bands.old }
+    requires inside { AreInsideBefore start bands.old others.now }
+    requires common { AllBands (meet_bands bands.old others.now) }
+    ensures { bands.new ≡ meet_bands bands.old others.now }
+{
+    meet_bands(&mut bands[start..], &others[start..]);
 }
 
 /// The sum of `hi - lo`.

@@ -65,17 +65,18 @@ impl Tube {
         requires shape { HasShapeOf self.old other.now }
         ensures { Meets result self.old other.now self.new }
     {
-        if let Some(place) = flat::first_empty(self.bands.as_slice(), other.bands.as_slice()) {
+        let Some(start) = flat::first_outside(self.bands.as_slice(), other.bands.as_slice()) else {
+            return Met::Same;
+        };
+        let empty = flat::first_empty_from(self.bands.as_slice(), other.bands.as_slice(), start);
+        if let Some(place) = empty {
             let channels = self.channels as usize;
             return Met::Empty {
                 tick: (place / channels) as u32,
                 channel: (place % channels) as u32,
             };
         }
-        if flat::all_inside(self.bands.as_slice(), other.bands.as_slice()) {
-            return Met::Same;
-        }
-        flat::meet_bands(self.bands.as_mut_slice(), other.bands.as_slice());
+        flat::meet_from(self.bands.as_mut_slice(), other.bands.as_slice(), start);
         Met::Narrowed
     }
 
