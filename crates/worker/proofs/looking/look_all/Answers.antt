@@ -1,6 +1,6 @@
 -- Each look shows a version that is there, and those that were seen before stay.
-use Rattle.std.proofs.Common.{◌≡◌, ◌∙◌, ◌<◌, ◌≤◌, ℕ, Less, Equal, Greater, Bool, true, false, cond, nat_lt, ◌==◌, List, [], length, refl, sym, ap, subst, subst₂, arith}
-use Rattle.std.specs.Prelude.{slice_index, slice_index_or, take}
+use Rattle.std.proofs.Common.{◌≡◌, ◌∙◌, ◌<◌, ◌≤◌, ℕ, Less, Equal, Greater, Bool, true, false, cond, nat_lt, ◌==◌, List, length, refl, sym, ap, subst, subst₂, arith}
+use Rattle.std.specs.Prelude.{slice_index, take}
 use Rattle.std.specs.Ordering.{is_lt}
 use Rattle.std.proofs.lemmas.Bool.Decides.{nat_tests}
 use Rattle.relaxation.specs.Tube.{Tube, IsWithin}
@@ -9,7 +9,7 @@ use Rattle.renewal.specs.Plan.{window_of}
 use Rattle.renewal.specs.Room.{planned}
 use Rattle.renewal.proofs.Carrying.{opened-counted}
 use Rattle.worker.specs.Knowing.{seen_by}
-use Rattle.worker.specs.Looking.{IsSeen, Shows}
+use Rattle.worker.specs.Looking.{IsSeen}
 use Rattle.worker.proofs.Taken.{opened-at, taken-more, taken-whole}
 use Rattle.worker.proofs.looking.look_all.Goals as goal
 
