@@ -2,7 +2,6 @@ pub mod Adoptable
 pub mod Boards
 pub mod Carried
 pub mod Changes
-pub mod Counts
 pub mod Kept
 pub mod Lasts
 pub mod Lefts

@@ -2,7 +2,7 @@ use Rattle.std.proofs.Common.{◌∙◌, ◌<◌, ℕ, List, length, ap, sym, su
 use Rattle.std.specs.List.{AllByRecursion}
 use Rattle.plant_streams.specs.Streams.{streams_of}
 use Rattle.renewal.proofs.Givers.{reads-are}
-use Rattle.relax_core.proofs.Counts.{reads-few}
+use Rattle.renewal.proofs.Counts.{reads-few}
 use Rattle.relax_core.proofs.givers.reads.Goals as goal
 
 pub returns-clause-reads : goal.returns-clause-reads

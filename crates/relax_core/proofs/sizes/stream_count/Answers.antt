@@ -1,6 +1,6 @@
 use Rattle.std.proofs.Common.{◌∙◌, length, ap, arith}
 use Rattle.plant_streams.specs.Streams.{streams_of}
-use Rattle.relax_core.proofs.Counts.{streams-few}
+use Rattle.renewal.proofs.Counts.{streams-few}
 use Rattle.relax_core.proofs.sizes.stream_count.Goals as goal
 
 pub overflow_cast-result : goal.overflow_cast-result

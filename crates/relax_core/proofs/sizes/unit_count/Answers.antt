@@ -1,6 +1,6 @@
 use Rattle.std.proofs.Common.{◌∙◌, length, ap, arith}
 use Rattle.plant_units.specs.Units.{units_of}
-use Rattle.relax_core.proofs.Counts.{units-few}
+use Rattle.renewal.proofs.Counts.{units-few}
 use Rattle.relax_core.proofs.sizes.unit_count.Goals as goal
 
 pub overflow_cast-result : goal.overflow_cast-result

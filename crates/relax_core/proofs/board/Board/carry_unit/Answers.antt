@@ -5,7 +5,7 @@ use Rattle.relaxation.specs.Tube.{Tube, at}
 use Rattle.relaxation.specs.Core.{named, AreThere}
 use Rattle.renewal.specs.Room.{planned, renewal_of}
 use Rattle.relax_core.proofs.Carried.{last-there, last-read}
-use Rattle.relax_core.proofs.Counts.{reads-few}
+use Rattle.renewal.proofs.Counts.{reads-few}
 use Rattle.relax_core.proofs.board.Board.carry_unit.Goals as goal
 
 pub last_numbers-count-requires-clause-room : goal.last_numbers-count-requires-clause-room

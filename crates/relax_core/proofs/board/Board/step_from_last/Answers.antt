@@ -3,7 +3,7 @@ use Rattle.std.proofs.Common.{take, subst, Err}
 use Rattle.relaxation.specs.Core.{Step}
 use Rattle.relax_core.specs.Stepping.{Steps, reads_for}
 use Rattle.relax_core.specs.declared.board.StepFault.{StepFault}
-use Rattle.relax_core.proofs.Counts.{reads-few}
+use Rattle.renewal.proofs.Counts.{reads-few}
 use Rattle.relax_core.proofs.Turning.{giver-there, giver-reads, last-missing}
 use Rattle.relax_core.proofs.board.Board.step_from_last.Goals as goal
 

@@ -1,7 +1,7 @@
 -- There is room for as many streams as the order has.
 use Rattle.std.proofs.Common.{◌≤◌, length, sym, ap, arith}
 use Rattle.std.proofs.lemmas.List.{length-take-le}
-use Rattle.relax_core.proofs.Counts.{streams-few}
+use Rattle.renewal.proofs.Counts.{streams-few}
 use Rattle.relax_core.proofs.Orders.{order-length}
 use Rattle.relax_core.proofs.board.Board.write_order.Goals as goal
 
