@@ -6,7 +6,6 @@ use Rattle.relaxation.specs.Tube.{Tube, IsWithin}
 use Rattle.relaxation.specs.History.{History, AllBegin, history_of}
 use Rattle.plant_streams.specs.Streams.{streams_of}
 use Rattle.plant.specs.PlantOf.{plant_of}
-use Rattle.tubes.specs.Shape.{HasShapeOf}
 use Rattle.renewal.specs.Plan.{PlanOf, window_of}
 use Rattle.stream_cell.specs.declared.head.CellMet.{CellMet}
 use Rattle.stream_cell.specs.declared.head.Look.{Look}

@@ -3,9 +3,8 @@ use Rattle.std.proofs.Common.{◌≡◌, ◌≢◌, ◌⊎◌, ◌∙◌, ℕ, z
 use Rattle.std.specs.Prelude.{slice_index_or, slice_set, map}
 use Rattle.std.proofs.lemmas.Bool.{cases_eq}
 use Rattle.std.proofs.lemmas.List.{length-map, map-set, get_or_default, get_or-set_same, get_or-set_other}
-use Rattle.flowsheet.specs.Plant.{Origin, origin_of}
+use Rattle.flowsheet.specs.Plant.{origin_of}
 use Rattle.relaxation.specs.Tube.{Tube}
-use Rattle.relaxation.specs.Window.{Window}
 use Rattle.relaxation.specs.History.{Version, History, AllBegin, Begins, history_of, numbered}
 use Rattle.plant.specs.PlantOf.{plant_of}
 use Rattle.plant.proofs.Lookups.{at-map}
@@ -122,8 +121,8 @@ module _ (plan : PlanOf) (worker : ℕ) (passes : List CellPass) (s : ℕ) (new 
 
 -- so does a hand
 module _ {C : Type 0} (opening : C → Tube) (is_pass : C → CellPass → Type 0) (plan : PlanOf) (worker : ℕ) (cells : List C)
-    (passes : List CellPass) (hand : IsHand opening is_pass plan worker cells passes) (s : ℕ) (new : CellPass) (there : s < length cells)
-    where
+    (passes : List CellPass) (hand : IsHand opening is_pass plan worker cells passes) (s : ℕ) (new : CellPass)
+    (there : s < length cells) where
   passes-there : s < length passes
   passes-there = let a = hand.cells_counted in let b = (hand.known).counted in omega arith
 

@@ -1,8 +1,8 @@
 -- What a look or a meet says of its pass: it has seen a longer history, in which it knows all that it made.
-use Rattle.std.proofs.Common.{◌≡◌, ◌∙◌, ◌⊎◌, ◌&&◌, ℕ, zero, suc, ◌+◌, ◌-◌, ◌<◌, ◌≤◌, Bool, true, false, cond, List, [], ◌∷◌, ◌++◌, map, filter, length, max}
+use Rattle.std.proofs.Common.{◌≡◌, ◌∙◌, ◌⊎◌, ◌&&◌, ℕ, zero, suc, ◌+◌, ◌-◌, ◌<◌, cond, List, [], ◌∷◌, ◌++◌, map, filter, length}
 use Rattle.std.proofs.Common.{length-append, nat_eq, nat_lt, lt-ltb, eq-eqb, append_assoc, append-nil, refl, sym, ap, ap₂, subst, subst₂, inl, inr, arith}
 use Rattle.std.proofs.lemmas.Bool.{cases_lt}
-use Rattle.std.proofs.lemmas.List.{get_or_append_left, get_or-append_right, get_or_push, map-append, append_cancel_left, append_cancel_right}
+use Rattle.std.proofs.lemmas.List.{get_or_append_left, get_or-append_right, map-append, append_cancel_left, append_cancel_right}
 use Rattle.std.proofs.lemmas.List.Elements.{filter-append}
 use Rattle.flowsheet.specs.Plant.{Origin}
 use Rattle.relaxation.specs.Tube.{Tube}
@@ -14,11 +14,10 @@ use Rattle.stream_cell.specs.declared.head.Look.{Look}
 use Rattle.stream_cell.specs.declared.head.Look.TheVariants as shown
 use Rattle.stream_cell.specs.declared.head.Uses.{Uses}
 use Rattle.stream_cell.specs.declared.view.PassView.{PassView}
-use Rattle.stream_cell.specs.Histories.{IsHistoryOf, newest, next_version}
-use Rattle.stream_cell.specs.Passes.{IsOf, JudgesNow, LooksOrStays, MeetsOrStays, Stays, looked, made_by, made_of}
+use Rattle.stream_cell.specs.Histories.{IsHistoryOf, next_version}
+use Rattle.stream_cell.specs.Passes.{IsOf, JudgesNow, LooksOrStays, MeetsOrStays, Stays, looked, made_by}
 use Rattle.stream_cell.proofs.Passing.{begins_itself}
 use Rattle.worker.specs.Knowing.{IsNextMade}
-use Rattle.worker.proofs.Grown.{next-same}
 use Rattle.worker.proofs.Knows.{IsLater}
 
 -- what a pass made of two parts of a history
@@ -128,8 +127,10 @@ module _ (opening : Tube) (worker : ℕ) (old : PassView) (own : old.number ≡ 
       next = next_version history worker renewal uses
 
       pushed-begins : Begins old.seen new.seen
-      pushed-begins = (begins.0 ++ next ∷ [],
-          pushed ∙ ap (λ (all : History). all ++ next ∷ []) begins.1 ∙ append_assoc old.seen begins.0 (next ∷ []))
+      pushed-begins = (
+        begins.0 ++ next ∷ [],
+        pushed ∙ ap (λ (all : History). all ++ next ∷ []) begins.1 ∙ append_assoc old.seen begins.0 (next ∷ []),
+      )
 
       pushed-made : made_by worker history ≡ made_by worker old.seen
       pushed-made = append_cancel_right (made_by worker history) (made_by worker old.seen) (length history ∷ [])

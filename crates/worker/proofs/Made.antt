@@ -1,11 +1,10 @@
 -- What a look shows is a version that was seen, and the meet with a renewal from such versions is made from them.
-use Rattle.std.proofs.Common.{◌≡◌, ◌∙◌, ℕ, suc, ◌+◌, ◌-◌, ◌<◌, ◌≤◌, List, [], ◌∷◌, ◌++◌, length, map, max, refl, sym, ap, subst, subst₂, arith}
-use Rattle.std.specs.Prelude.{slice_index, slice_index_or}
+use Rattle.std.proofs.Common.{◌≡◌, ◌∙◌, ℕ, ◌+◌, ◌-◌, ◌<◌, ◌≤◌, List, [], ◌∷◌, ◌++◌, length, max, sym, ap, subst, subst₂, arith}
 use Rattle.std.proofs.lemmas.List.{get_or_append_left, get_or_push}
-use Rattle.flowsheet.specs.Plant.{Origin, port, unit_at, origin_of}
+use Rattle.flowsheet.specs.Plant.{Origin, origin_of}
 use Rattle.relaxation.specs.Tube.{Tube, IsWithin, meet}
-use Rattle.relaxation.specs.Window.{Window, renewal}
-use Rattle.relaxation.specs.History.{Version, History, IsMadeFrom, history_of, no_version, numbered, read_versions}
+use Rattle.relaxation.specs.Window.{renewal}
+use Rattle.relaxation.specs.History.{Version, History, IsMadeFrom, no_version, numbered}
 use Rattle.plant.specs.PlantOf.{plant_of}
 use Rattle.renewal.specs.Plan.{PlanOf, window_of}
 use Rattle.renewal.specs.Room.{planned}
@@ -16,7 +15,7 @@ use Rattle.stream_cell.specs.declared.view.PassView.{PassView}
 use Rattle.stream_cell.specs.Histories.{IsHistoryOf, newest, next_version}
 use Rattle.stream_cell.specs.Passes.{LooksOrStays}
 use Rattle.worker.specs.Knowing.{IsNextMade}
-use Rattle.worker.specs.Looking.{AreSeen, IsMadeOf, IsSeen, Shows}
+use Rattle.worker.specs.Looking.{IsMadeOf, IsSeen, Shows}
 use Rattle.worker.proofs.Grown.{seen-earlier, seen-tubes}
 
 -- the last version is there

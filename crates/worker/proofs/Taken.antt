@@ -3,8 +3,7 @@ use Rattle.std.proofs.Common.{◌≡◌, ◌∙◌, ℕ, zero, suc, ◌+◌, ◌
 use Rattle.std.specs.Prelude.{slice_index, slice_index_or, slice_set}
 use Rattle.std.proofs.lemmas.Bool.{cases_eq}
 use Rattle.std.proofs.lemmas.List.{length-map, length-take-le, get_or-take, get_or-set_same, get_or-set_other}
-use Rattle.std.proofs.lemmas.List.FromFn.{get_or-map-range_with_len, length-map-range_with_len}
-use Rattle.quant.specs.Interval.{Interval}
+use Rattle.std.proofs.lemmas.List.FromFn.{get_or-map-range_with_len}
 use Rattle.quant.proofs.Calls.{inside-length, same_cons}
 use Rattle.flowsheet.specs.Plant.{port, origin_of}
 use Rattle.relaxation.specs.Tube.{Tube, IsWithin}
@@ -18,7 +17,7 @@ use Rattle.plant.specs.PlantOf.{plant_of}
 use Rattle.plant.proofs.Lookups.{at-map, origin-is}
 use Rattle.tubes.specs.Shape.{HasShapeOf}
 use Rattle.renewal.specs.Plan.{PlanOf, window_of}
-use Rattle.renewal.specs.Room.{AreOpened, HasRoomFor, RenewalOf, planned, renewal_of}
+use Rattle.renewal.specs.Room.{AreOpened, HasRoomFor, RenewalOf, planned}
 use Rattle.renewal.specs.Giver.{IsGiver}
 use Rattle.renewal.proofs.Carrying.{opened-counted}
 use Rattle.renewal.proofs.Givers.{views-are}

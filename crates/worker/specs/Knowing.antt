@@ -3,7 +3,7 @@ use Rattle.std.specs.Prelude.{◌≡◌, ◌<◌, ◌+◌, ℕ, List, [], length
 use Rattle.flowsheet.specs.Plant.{Origin, feed, port, origin_of}
 use Rattle.relaxation.specs.Tube.{Tube}
 use Rattle.relaxation.specs.Window.{Window}
-use Rattle.relaxation.specs.History.{History, IsMadeFrom, history_of, numbered}
+use Rattle.relaxation.specs.History.{History, IsMadeFrom, numbered}
 use Rattle.plant_streams.specs.Streams.{streams_of}
 use Rattle.plant.specs.PlantOf.{plant_of}
 use Rattle.renewal.specs.Plan.{PlanOf, window_of}

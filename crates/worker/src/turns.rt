@@ -17,8 +17,12 @@ use turn_desk::Desk;
 /// A version is made from no versions with stamps as great as this.
 const MOST_STAMP: u64 = 1 << 62;
 
-/// One turn: looks at what a unit reads, renews the unit from it, and meets its outputs. It ends after the looks where one was busy, or
-/// where the worker renewed the unit from the same versions before, since its meets could then only narrow nothing.
+/// How many turns a desk gives a seat at most, for each of its units.
+const ROUNDS: u64 = 32;
+
+/// One turn: looks at what a unit reads, renews the unit from it, and meets its outputs. It ends after the looks where one
+/// was busy, or where the worker renewed the unit from the same versions before, since its meets could then only narrow
+/// nothing.
 fn turn<C: CellLike>(
     plan: &WindowPlan<'_>,
     worker: u32,
@@ -64,7 +68,7 @@ pub fn work<C: CellLike, D: Desk, G: Gate>(
     ensures hand { IsHand C.opening C.is_pass plan.now worker cells.now hand.new.passes.items }
     ensures room { IsRoom plan.now room.new }
 {
-    let most = 32 * u64::from(unit_count(plan));
+    let most = ROUNDS * u64::from(unit_count(plan));
     for turns in 0..most + 1 {
         gate.at_turn(worker, turns);
         let Some(unit) = desk.next(seat) else {

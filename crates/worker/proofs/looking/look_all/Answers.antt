@@ -1,19 +1,33 @@
 -- Each look shows a version that is there, and those that were seen before stay.
-use Rattle.std.proofs.Common.{◌≡◌, ◌∙◌, ◌<◌, ◌≤◌, ℕ, List, [], length, sym, ap, subst, subst₂, arith}
-use Rattle.std.specs.Prelude.{slice_index, slice_index_or, max, take}
+use Rattle.std.proofs.Common.{◌≡◌, ◌∙◌, ◌<◌, ◌≤◌, ℕ, Less, Equal, Greater, Bool, true, false, cond, nat_lt, ◌==◌, List, length, refl, sym, ap, subst, subst₂, arith}
+use Rattle.std.specs.Prelude.{slice_index, take}
+use Rattle.std.specs.Ordering.{is_lt}
+use Rattle.std.proofs.lemmas.Bool.Decides.{nat_tests}
 use Rattle.relaxation.specs.Tube.{Tube, IsWithin}
 use Rattle.relaxation.specs.History.{history_of}
 use Rattle.renewal.specs.Plan.{window_of}
 use Rattle.renewal.specs.Room.{planned}
 use Rattle.renewal.proofs.Carrying.{opened-counted}
 use Rattle.worker.specs.Knowing.{seen_by}
-use Rattle.worker.specs.Looking.{IsSeen, Shows}
+use Rattle.worker.specs.Looking.{IsSeen}
 use Rattle.worker.proofs.Taken.{opened-at, taken-more, taken-whole}
 use Rattle.worker.proofs.looking.look_all.Goals as goal
 
 -- one of the streams that were asked for is one that is read
 one-read : {reads streams : List ℕ} {n : ℕ} → streams ≡ reads → n < length streams → n < length reads
 one-read e l = omega (arith, l, ap length e)
+
+-- the greater of two stamps
+picked : (lt eq : Bool) (a b : ℕ) → cond (is_lt (cond lt Less (cond eq Equal Greater))) a b ≡ cond lt a b
+picked true eq a b = refl
+picked false true a b = refl
+picked false false a b = refl
+
+first-below : (m a b : ℕ) → m ≡ cond (nat_lt b a) a b → a ≤ m
+first-below m a b e = grind (arith, nat_tests)
+
+second-below : (m a b : ℕ) → m ≡ cond (nat_lt b a) a b → b ≤ m
+second-below m a b e = grind (arith, nat_tests)
 
 pub port-tube-requires : goal.port-tube-requires
 port-tube-requires g c =
@@ -52,8 +66,9 @@ loop-port-preserved g c =
     subst (λ (streams : List ℕ). IsWithin tube ((window_of plan).opening (slice_index streams n))) same c.look_at.ensures.opened in
     let seen : IsSeen (history_of whole (slice_index reads n)) c.in-Seen.number stamp tube =
     subst (λ (streams : List ℕ). IsSeen (history_of whole (slice_index streams n)) c.in-Seen.number stamp tube) same c.in-Seen.ensures.shows in
-    let low : base ≤ more = omega (arith, c.max-base.ensures) in
-    let high : stamp ≤ more = omega (arith, c.max-base.ensures) in
+    let picks = c.max-base.ensures ∙ picked (nat_lt stamp base) (stamp == base) base stamp in
+    let low : base ≤ more = first-below more base stamp picks in
+    let high : stamp ≤ more = second-below more base stamp picks in
     record {
       hand = c.look_at.ensures.hand;
       taken = taken-more plan (seen_by c.loop-port.passes.items) whole c.look_at.ensures.begins reads n base c.loop-port.numbers
