@@ -1,9 +1,10 @@
+pub mod Answering
 pub mod Closing
 pub mod Dealing
-pub mod Opened
 pub mod Flats
-pub mod Keeping
 pub mod Growing
+pub mod Keeping
+pub mod Opened
 pub mod Passing
 pub mod Seating
 pub mod Stepping

@@ -1,11 +1,9 @@
 -- Passes of a history, and of one with one version more.
-use Rattle.std.proofs.Common.{◌≡◌, ◌≢◌, ◌&&◌, ℕ, ◌+◌, ◌<◌, Bool, true, false, cond, List, [], ◌∷◌, ◌++◌, map, filter, length, length-append, nat_eq, nat_lt, lt-ltb, eq-eqb, ne_eqb, append_assoc, append-nil, refl, sym, ap, ap₂, ◌∙◌, subst, subst₂, arith}
+use Rattle.std.proofs.Common.{◌≡◌, ◌≢◌, ◌&&◌, ℕ, ◌+◌, ◌<◌, Bool, true, false, cond, List, [], ◌∷◌, ◌++◌, map, filter, length, length-append, nat_eq, nat_lt, lt-ltb, eq-eqb, ne_eqb, append_assoc, append-nil, refl, sym, ap, ap₂, ◌∙◌, arith}
 use Rattle.std.proofs.lemmas.List.{get_or_append_left, map-append}
 use Rattle.std.proofs.lemmas.List.Elements.{filter-append}
-use Rattle.relaxation.specs.Tube.{Tube}
 use Rattle.relaxation.specs.History.{Version, History, Begins, no_version, numbered}
 use Rattle.stream_cell.specs.declared.view.PassView.{PassView}
-use Rattle.stream_cell.specs.Histories.{newest, IsHistoryOf}
 use Rattle.stream_cell.specs.Passes.{IsOf, made_by}
 use Rattle.stream_cell.specs.Steps.{reading, appending}
 use Rattle.stream_cell.proofs.Flats.{newest_pushed}

@@ -1,5 +1,5 @@
 -- Each step of a pass keeps the rule of the cell.
-use Rattle.std.proofs.Common.{◌≡◌, ◌≢◌, ℕ, zero, suc, ◌+◌, ◌%◌, ◌^◌, ◌<◌, ◌≤◌, Bool, true, false, true≢false, cond, List, [], ◌∷◌, ◌++◌, length, length-append, length-set, set, get_or-set_same, get_or-set_other, sum_by, count_by, nat_eq, nat_lt, eq-eqb, le-ltb, if◌then◌else◌, lt_of_not-le, inl, inr, refl, sym, ap, ◌∙◌, subst, subst₂, arith}
+use Rattle.std.proofs.Common.{◌≡◌, ◌≢◌, ℕ, ◌+◌, ◌%◌, ◌^◌, ◌<◌, ◌≤◌, Bool, true, false, true≢false, cond, List, [], ◌∷◌, ◌++◌, length, length-append, length-set, set, get_or-set_same, get_or-set_other, count_by, nat_eq, nat_lt, eq-eqb, le-ltb, if◌then◌else◌, lt_of_not-le, inl, inr, refl, sym, ap, ◌∙◌, subst, subst₂, arith}
 use Rattle.std.specs.Prelude.{slice_index}
 use Rattle.std.specs.List.{AllByRecursion}
 use mathlib.Core.Logic.{dite}
@@ -8,8 +8,7 @@ use native.Mathlib.Decide.{ℕ_discrete, dec_le}
 use lib.ListN.{get_elem?}
 use Rattle.std.proofs.lemmas.Bool.{cases_lt}
 use Rattle.std.proofs.lemmas.List.{get_or_append_left, get_or_push}
-use Rattle.atomic_table.specs.Table.{State, Step, Me, takes, keeps, gives, Allows}
-use Rattle.relaxation.specs.Tube.{Tube}
+use Rattle.atomic_table.specs.Table.{State, Step, takes, keeps, gives, Allows}
 use Rattle.relaxation.specs.History.{Version, History, Begins, no_version, numbered}
 use Rattle.stream_cell.specs.declared.view.Opening.{Opening}
 use Rattle.stream_cell.specs.declared.view.PassView.{PassView}
@@ -20,7 +19,8 @@ use Rattle.stream_cell.specs.Histories.{IsHistoryOf}
 use Rattle.stream_cell.specs.Passes.{IsOf, missed}
 use Rattle.stream_cell.specs.Seats.{the_one}
 use Rattle.stream_cell.specs.Steps.{MyMe, with_history, holding, reading, appending, free, seized, read, appended, released}
-use Rattle.stream_cell.proofs.Passing.{begins_itself, first_stays, of_more, of_whole, of_own}
+use Rattle.stream_cell.proofs.Passing.{first_stays, of_more, of_whole, of_own}
+use Rattle.stream_cell.proofs.Seating.{first_out}
 use Rattle.stream_cell.proofs.Views.{sum_set, sum_one, sum_two, all_one, all_set, all_both, all_exchanged, count_one, count_yes, count_none}
 
 -- what a turn is
@@ -74,13 +74,9 @@ number-of v i k e = count_one (λ (u : PassView). nat_eq u.number k) v ∙ ap (�
 the-same : (v u : PassView) (a b : List (ℕ × History)) → ◌≡◌ {A = MyMe} (v ∷ [], a) (u ∷ [], b) → v ≡ u
 the-same v u a b e = ap (λ (m : MyMe). the_one m.0) e
 
-abbrev held-out : List (ℕ × History) → History
-held-out [] = []
-held-out (x ∷ xs) = x.1
-
 -- what is so of a pass and the history that it has out, is so of those that are told
 carries : (P : PassView → History → Type 0) (v u : PassView) (h k : History) → with_history v h ≡ with_history u k → P v h → P u k
-carries P v u h k e is = subst₂ P (the-same v u _ _ e) (ap (λ (m : MyMe). held-out m.1) e) is
+carries P v u h k e is = subst₂ P (the-same v u _ _ e) (ap (λ (m : MyMe). first_out m.1) e) is
 
 abbrev Homes : Type 0
 Homes = List (Option History)

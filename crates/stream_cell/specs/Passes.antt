@@ -1,7 +1,7 @@
 -- Passes of a cell: what they have seen of its history, and what they made in it.
 use Rattle.std.specs.Prelude.{◌≡◌, ◌⊎◌, ◌&&◌, ◌<◌, ◌+◌, ◌∷◌, ◌++◌, ℕ, [], List, filter, length, map, nat_eq, nat_lt}
 use Rattle.relaxation.specs.Tube.{Tube}
-use Rattle.relaxation.specs.History.{Version, History, Begins, numbered}
+use Rattle.relaxation.specs.History.{Version, History, Begins}
 use Rattle.stream_cell.specs.declared.head.CellMet.{CellMet}
 use Rattle.stream_cell.specs.declared.head.CellMet.TheVariants as met
 use Rattle.stream_cell.specs.declared.head.Look.{Look}

@@ -2,14 +2,14 @@
 -- What each step tells the pass that makes it.
 use Rattle.std.specs.Prelude.{◌≡◌, ◌≢◌, ◌+◌, ◌<◌, ◌∷◌, ◌++◌, ℕ, [], List, length}
 use Rattle.atomic_table.specs.Table.{Step, Me}
-use Rattle.relaxation.specs.Tube.{Tube}
 use Rattle.relaxation.specs.History.{Version, History, Begins, numbered}
+use Rattle.stream_cell.specs.declared.head.CellMet.{CellMet}
 use Rattle.stream_cell.specs.declared.view.PassView.{PassView}
 use Rattle.stream_cell.specs.declared.view.Turn.TheVariants.{Free, Held, Read}
 use Rattle.stream_cell.specs.declared.passes.StreamCell.{StreamCell}
 use Rattle.stream_cell.specs.declared.passes.CellPass.{CellPass}
 use Rattle.stream_cell.specs.Histories.{newest, IsHistoryOf}
-use Rattle.stream_cell.specs.Passes.{IsOf, missed}
+use Rattle.stream_cell.specs.Passes.{IsOf, made_of, missed}
 use Rattle.stream_cell.specs.Seats.{opening_of}
 
 -- a pass that has taken the turn and the history
@@ -69,9 +69,21 @@ pub record IsAt (cell : StreamCell) (pass : CellPass) (v : PassView) (out : List
   pub some : 0 < length v.seen
   pub opens : (numbered v.seen 0).tube ≡ opening_of cell
 
+-- the pass has the turn and the history, has read the whole of it, and is of it
+pub record IsRead (cell : StreamCell) (pass : CellPass) (v : PassView) : Type 0 where
+  pub at : IsAt cell pass v ((0, v.seen) ∷ [])
+  pub turn : v.turn ≡ Read
+  pub ordered : IsHistoryOf (opening_of cell) v.seen
+  pub of : IsOf v.seen v
+
 -- the version that was put behind those that the pass has read is its own, and what results is a history
 pub record IsAppended (cell : StreamCell) (pass : CellPass) (v : PassView) (history : History) : Type 0 where
   pub at : IsAt cell pass v ((0, history) ∷ [])
-  pub read : v.turn ≡ Read
+  pub turn : v.turn ≡ Read
   pub last : (version : Version) × (history ≡ v.seen ++ version ∷ []) × (version.maker ≡ v.number)
   pub ordered : IsHistoryOf (opening_of cell) history
+
+-- the same pass, once it has met the last version and counted what it appended
+abbrev pub counting : PassView → CellMet → History → PassView
+counting v met history =
+    record { number = v.number; seen = history; made = v.made ++ made_of met; turn = Read; looks = v.looks; misses = v.misses }

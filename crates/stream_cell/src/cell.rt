@@ -129,10 +129,7 @@ impl CellLike for StreamCell {
             return CellMet::Busy;
         }
         self.read(pass);
-        let met = self.judge(pass, renewal, uses);
-        if let CellMet::Narrowed { .. } = met {
-            self.append(pass);
-        }
+        let met = self.narrow(pass, renewal, uses);
         self.release(pass);
         met
     }

@@ -1,14 +1,13 @@
 //! The kinds of step that a pass makes on its cell, each with what it tells the pass.
 
-ghost use Rattle.std.specs.Prelude.{◌≡◌, ◌<◌, ◌+◌, ◌^◌, ◌∷◌, ℕ, [], true, false, length};
-ghost use Rattle.relaxation.specs.History.{History, Begins, numbered};
+ghost use Rattle.std.specs.Prelude.{◌≡◌, ◌<◌, ◌^◌, ◌∷◌, [], true, false};
+ghost use Rattle.relaxation.specs.History.{History, Begins};
 ghost use Rattle.tubes.specs.Shape.{HasShapeOf};
-ghost use Rattle.stream_cell.specs.Histories.{newest, IsHistoryOf, Judges};
-ghost use Rattle.stream_cell.specs.Passes.{IsOf, missed};
+ghost use Rattle.stream_cell.specs.Histories.{newest, Judges};
+ghost use Rattle.stream_cell.specs.Passes.{missed};
 ghost use Rattle.stream_cell.specs.Seats.{IsPassOf, opening_of, pass_view};
-ghost use Rattle.stream_cell.specs.Steps.{IsAt, IsAppended, appending, free, holding, reading};
+ghost use Rattle.stream_cell.specs.Steps.{IsAt, IsAppended, IsRead, appending, counting, free, holding, reading};
 ghost use Rattle.stream_cell.specs.declared.view.PassView.{PassView};
-ghost use Rattle.stream_cell.specs.declared.view.Turn.TheVariants.{Read};
 
 use crate::head::{CellMet, Uses};
 use crate::passes::{CellPass, StreamCell};
@@ -35,29 +34,44 @@ impl StreamCell {
     pub(crate) fn read(&self, pass: &mut CellPass)
         requires { (v : PassView) × (history : History) × IsAt self.now pass.old (holding v history) ((0, history) ∷ []) }
         ensures { (v : PassView) (history : History) → IsAt self.now pass.old (holding v history) ((0, history) ∷ []) →
-            IsAt self.now pass.new (reading v history) ((0, history) ∷ [])
-            × Begins v.seen history × IsHistoryOf (opening_of self.now) history × IsOf history (reading v history) }
+            IsRead self.now pass.new (reading v history) × Begins v.seen history }
     {
         let _ = self.table.shared.load::<Reading>(&mut pass.seat, COUNT);
     }
 
     /// Copies the last version's tube, and answers its number and its stamp.
     pub(crate) fn show(&self, pass: &mut CellPass, into: &mut Tube) -> (u32, u64)
-        requires out { (v : PassView) × (history : History) × IsAt self.now pass.old v ((0, history) ∷ []) × HasShapeOf into.old (newest history).tube }
+        requires read { (v : PassView) × IsRead self.now pass.old v }
+        requires shape { HasShapeOf into.old (opening_of self.now) }
         ensures pass { pass.new ≡ pass.old }
-        ensures shown { (v : PassView) (history : History) → IsAt self.now pass.old v ((0, history) ∷ []) →
-            (into.new ≡ (newest history).tube) × (result.0 ≡ (newest history).number) × (result.1 ≡ (newest history).stamp) }
+        ensures shown { (v : PassView) → IsRead self.now pass.old v →
+            (into.new ≡ (newest v.seen).tube) × (result.0 ≡ (newest v.seen).number) × (result.1 ≡ (newest v.seen).stamp) }
     {
         pass.seat.slot_mut(&self.table.shared, 0).show(into)
     }
 
-    /// Meets the last version with a renewal, and puts a version that narrows behind it.
-    pub(crate) fn judge(&self, pass: &mut CellPass, renewal: &Tube, uses: &Uses) -> CellMet
-        requires out { (v : PassView) × (history : History) × IsAt self.now pass.old v ((0, history) ∷ [])
-            × HasShapeOf (newest history).tube renewal.now × ((newest history).stamp + 1 < 2 ^ 64) }
+    /// Meets the last version with a renewal, and counts the meet where it was appended.
+    pub(crate) fn narrow(&self, pass: &mut CellPass, renewal: &Tube, uses: &Uses) -> CellMet
+        requires read { (v : PassView) × IsRead self.now pass.old v }
+        requires shape { HasShapeOf (opening_of self.now) renewal.now }
         requires base { uses.now.base < 2 ^ 62 }
-        ensures { (v : PassView) (history : History) → IsAt self.now pass.old v ((0, history) ∷ []) →
-            (after : History) × IsAt self.now pass.new v ((0, after) ∷ []) × Judges result history v.number renewal.now uses.now after }
+        ensures { (v : PassView) → IsRead self.now pass.old v →
+            (after : History) × IsRead self.now pass.new (counting v result after) × Judges result v.seen v.number renewal.now uses.now after }
+    {
+        let met = self.judge(pass, renewal, uses);
+        if let CellMet::Narrowed { .. } = met {
+            self.append(pass);
+        }
+        met
+    }
+
+    // Puts a version that narrows behind the last one.
+    fn judge(&self, pass: &mut CellPass, renewal: &Tube, uses: &Uses) -> CellMet
+        requires read { (v : PassView) × IsRead self.now pass.old v }
+        requires shape { HasShapeOf (opening_of self.now) renewal.now }
+        requires base { uses.now.base < 2 ^ 62 }
+        ensures { (v : PassView) → IsRead self.now pass.old v →
+            (after : History) × IsAt self.now pass.new v ((0, after) ∷ []) × Judges result v.seen v.number renewal.now uses.now after }
     {
         let number = pass.number;
         pass.seat
@@ -65,11 +79,10 @@ impl StreamCell {
             .meet(number, renewal, uses)
     }
 
-    /// Counts the version that was put behind the others.
-    pub(crate) fn append(&self, pass: &mut CellPass)
+    // Counts the version that was put behind the others.
+    fn append(&self, pass: &mut CellPass)
         requires { (v : PassView) × (history : History) × IsAppended self.now pass.old v history }
-        ensures { (v : PassView) (history : History) → IsAppended self.now pass.old v history →
-            IsAt self.now pass.new (appending v history) ((0, history) ∷ []) × IsOf history (appending v history) }
+        ensures { (v : PassView) (history : History) → IsAppended self.now pass.old v history → IsRead self.now pass.new (appending v history) }
     {
         let _ = self
             .table
@@ -79,9 +92,8 @@ impl StreamCell {
 
     /// Gives the history and the turn back.
     pub(crate) fn release(&self, pass: &mut CellPass)
-        requires { (v : PassView) × (v.turn ≡ Read) × IsAt self.now pass.old v ((0, v.seen) ∷ []) }
-        ensures { (v : PassView) → IsAt self.now pass.old v ((0, v.seen) ∷ []) →
-            IsPassOf self.now pass.new × (pass_view pass.new ≡ free v) }
+        requires { (v : PassView) × IsRead self.now pass.old v }
+        ensures { (v : PassView) → IsRead self.now pass.old v → IsPassOf self.now pass.new × (pass_view pass.new ≡ free v) }
     {
         let _ = self.table.shared.swap::<Releasing>(&mut pass.seat, TURN, 0);
     }

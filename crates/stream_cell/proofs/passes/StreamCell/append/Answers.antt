@@ -1,8 +1,8 @@
-use Rattle.std.proofs.Common.{rules, ◌≡◌, ◌+◌, ◌%◌, ◌^◌, sym, ◌∙◌, subst}
+use Rattle.std.proofs.Common.{rules, ◌∷◌, [], ◌+◌, refl, ◌%◌, ◌^◌, sym, ◌∙◌, subst}
 use mathlib.Core.Option.{none}
 use Rattle.atomic_table.specs.Table.{Allows, step}
 use Rattle.stream_cell.specs.Cell.{IsCell}
-use Rattle.stream_cell.specs.Steps.{MyMe, appended}
+use Rattle.stream_cell.specs.Steps.{IsAt, MyMe, appended, appending}
 use Rattle.stream_cell.proofs.Stepping.{appends}
 use Rattle.stream_cell.proofs.passes.StreamCell.append.Goals as goal
 
@@ -14,18 +14,17 @@ fetch_add-requires c =
       search rules,
       subst (λ (me : MyMe). Allows (IsCell table.key) table.table_id.slots c.args.pass.now.seat.id me 1 (λ n. (n + 1) % 2 ^ 64) (appended (step table.table_id.slots 1 1 0 none) me))
           (sym is.at.me)
-          (appends table.key _ _ (step table.table_id.slots 1 1 0 none) c.requires.0 c.requires.1 is.last.0 is.read is.last.1 is.last.2 is.ordered),
+          (appends table.key _ _ (step table.table_id.slots 1 1 0 none) c.requires.0 c.requires.1 is.last.0 is.turn is.last.1 is.last.2 is.ordered),
     )
 
 pub returns : goal.returns
 returns c = λ v history is.
-    let told = c.fetch_add.ensures.2 v history is.at.me in (
-      record {
-        table = c.fetch_add.ensures.0 ∙ is.at.table;
-        me = told.1;
-        number = is.at.number;
-        some = told.0.some;
-        opens = is.ordered.opens;
-      },
-      told.0,
-    )
+    let told = c.fetch_add.ensures.2 v history is.at.me in
+    let now : IsAt c.args.self.now _ (appending v history) ((0, history) ∷ []) = record {
+      table = c.fetch_add.ensures.0 ∙ is.at.table;
+      me = told.1;
+      number = is.at.number;
+      some = told.0.some;
+      opens = is.ordered.opens;
+    } in
+    record { at = now; turn = refl; ordered = is.ordered; of = told.0 }

@@ -1,9 +1,9 @@
-use Rattle.std.proofs.Common.{rules, ◌≡◌, refl, sym, ◌∙◌, subst}
+use Rattle.std.proofs.Common.{rules, ◌∷◌, [], refl, sym, ◌∙◌, subst}
 use mathlib.Core.Option.{none}
 use Rattle.atomic_table.specs.Table.{Allows, step}
 use Rattle.stream_cell.specs.Cell.{IsCell}
 use Rattle.stream_cell.specs.Histories.{IsHistoryOf}
-use Rattle.stream_cell.specs.Steps.{MyMe, holding, read}
+use Rattle.stream_cell.specs.Steps.{IsAt, MyMe, holding, read, reading}
 use Rattle.stream_cell.proofs.Stepping.{reads}
 use Rattle.stream_cell.proofs.passes.StreamCell.read.Goals as goal
 
@@ -20,15 +20,12 @@ load-requires c =
 pub returns : goal.returns
 returns c = λ v history at.
     let told = c.load.ensures.2 (holding v history) history at.me refl in
-    let is = subst (λ opening. IsHistoryOf opening history) at.opens told.1 in (
-      record {
-        table = c.load.ensures.0 ∙ at.table;
-        me = told.3;
-        number = at.number;
-        some = told.2.some;
-        opens = is.opens;
-      },
-      told.0,
-      is,
-      told.2,
-    )
+    let ordered = subst (λ opening. IsHistoryOf opening history) at.opens told.1 in
+    let now : IsAt c.args.self.now _ (reading v history) ((0, history) ∷ []) = record {
+      table = c.load.ensures.0 ∙ at.table;
+      me = told.3;
+      number = at.number;
+      some = told.2.some;
+      opens = ordered.opens;
+    } in
+    (record { at = now; turn = refl; ordered = ordered; of = told.2 }, told.0)

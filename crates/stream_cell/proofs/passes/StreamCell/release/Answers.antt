@@ -1,4 +1,4 @@
-use Rattle.std.proofs.Common.{rules, ◌≡◌, refl, sym, ◌∙◌, subst}
+use Rattle.std.proofs.Common.{rules, refl, sym, ◌∙◌, subst}
 use mathlib.Core.Option.{none}
 use Rattle.atomic_table.specs.Table.{Allows, step}
 use Rattle.stream_cell.specs.Cell.{IsCell}
@@ -10,19 +10,19 @@ use Rattle.stream_cell.proofs.passes.StreamCell.release.Goals as goal
 pub swap-requires : goal.swap-requires
 swap-requires c =
     let table = c.args.self.now.table.shared in
-    let at = c.requires.2 in (
-      at.table,
+    let is = c.requires.1 in (
+      is.at.table,
       search rules,
       subst (λ (me : MyMe). Allows (IsCell table.key) table.table_id.slots c.args.pass.now.seat.id me 0 (λ _. 0) (released (step table.table_id.slots 0 0 0 none) me))
-          (sym at.me) (releases table.key _ _ (step table.table_id.slots 0 0 0 none) c.requires.0 (search rules) c.requires.1),
+          (sym is.at.me) (releases table.key _ _ (step table.table_id.slots 0 0 0 none) c.requires.0 (search rules) is.turn),
     )
 
 pub returns : goal.returns
-returns c = λ v at. seated c.args.self.now _ (free v)
+returns c = λ v is. seated c.args.self.now _ (free v)
     (record {
-      table = c.swap.ensures.0 ∙ at.table;
-      me = c.swap.ensures.2 v v.seen at.me;
-      number = at.number;
-      some = at.some;
-      opens = at.opens;
+      table = c.swap.ensures.0 ∙ is.at.table;
+      me = c.swap.ensures.2 v v.seen is.at.me;
+      number = is.at.number;
+      some = is.at.some;
+      opens = is.at.opens;
     }) refl

@@ -1,4 +1,4 @@
-use Rattle.std.proofs.Common.{rules, ◌≡◌, ◌∷◌, [], true≢false, eq-eqb, eqb-true, refl, sym, ◌∙◌, subst}
+use Rattle.std.proofs.Common.{rules, true≢false, eq-eqb, eqb-true, refl, sym, ◌∙◌, subst}
 use mathlib.Core.Option.{none}
 use Rattle.atomic_table.specs.Table.{Allows, step}
 use Rattle.stream_cell.specs.Cell.{IsCell}
