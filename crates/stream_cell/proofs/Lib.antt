@@ -1,3 +1,4 @@
 pub mod Flats
 pub mod Keeping
 pub mod Growing
+pub mod Pieces

@@ -1,5 +1,5 @@
 use crate::head::{CellMet, Head, Uses};
-use crate::rows::{about, append, append_rows};
+use crate::rows::{about, append, append_rows, cut_rows};
 use quant::Band;
 use std::alloc::{AllocError, Global};
 use std::marker::Model;
@@ -63,6 +63,60 @@ impl History {
         ensures { result ≡ length self.now }
     {
         self.heads.len()
+    }
+
+    /// What a version has beside its tube.
+    fn head(&self, k: usize) -> &Head
+        requires { k < length self.now }
+        ensures number { result.now.number ≡ (numbered self.now k).number }
+        ensures maker { result.now.maker ≡ (numbered self.now k).maker }
+        ensures stamp { result.now.stamp ≡ (numbered self.now k).stamp }
+        ensures refs { result.now.refs ≡ (numbered self.now k).refs }
+    {
+        &self.heads[k]
+    }
+
+    /// The number of the version at a place, the opening one's being 0.
+    pub fn number(&self, k: usize) -> u32
+        requires { k < length self.now }
+        ensures { result ≡ (numbered self.now k).number }
+    {
+        self.head(k).number
+    }
+
+    /// Who made the version at a place.
+    pub fn maker(&self, k: usize) -> u32
+        requires { k < length self.now }
+        ensures { result ≡ (numbered self.now k).maker }
+    {
+        self.head(k).maker
+    }
+
+    /// The stamp of the version at a place.
+    pub fn stamp(&self, k: usize) -> u64
+        requires { k < length self.now }
+        ensures { result ≡ (numbered self.now k).stamp }
+    {
+        self.head(k).stamp
+    }
+
+    /// The numbers of the versions that the one at a place was made from, in port order.
+    pub fn refs(&self, k: usize) -> Refs
+        requires { k < length self.now }
+        ensures { result ≡ (numbered self.now k).refs }
+    {
+        self.head(k).refs.copied()
+    }
+
+    /// A copy of the tube of the version at a place.
+    pub fn tube(&self, alloc: Global, k: usize) -> Result<Tube, AllocError>
+        requires { k < length self.now }
+        ensures { IfOk result (λ tube. tube ≡ (numbered self.now k).tube) }
+    {
+        let size = self.bands.len() / self.heads.len();
+        let mut tube = self.last.copied(alloc)?;
+        cut_rows(&mut tube, self.bands.as_slice(), k * size);
+        Ok(tube)
     }
 
     /// Copies the last version's tube, and answers its number and its stamp.

@@ -1,8 +1,8 @@
 //! The bands of a tube behind those of others in one vector.
 
-ghost use Rattle.std.specs.Prelude.{◌≡◌, ◌+◌, ◌<◌, ◌≤◌, [], ◌∷◌, ◌++◌, length, IsOk, OnOk};
+ghost use Rattle.std.specs.Prelude.{◌≡◌, ◌+◌, ◌<◌, ◌≤◌, [], ◌∷◌, ◌++◌, length, map, drop, IsOk, OnOk};
 ghost use Rattle.std.specs.Vec.{vec_capacity, vec_len};
-ghost use Rattle.stream_cell.specs.Flat.{flat};
+ghost use Rattle.stream_cell.specs.Flat.{flat, size, cut_by};
 
 use crate::head::Head;
 use quant::Band;
@@ -42,4 +42,17 @@ pub(crate) fn append(heads: &mut Vec<Head>, bands: &mut Vec<Band>, head: Head, t
     let Ok(()) = append_rows(bands, tube) else {
         unreachable!()
     };
+}
+
+/// Takes other bands, from a place on, tick by tick in the place of its own.
+pub(crate) fn cut_rows(into: &mut Tube, bands: &[Band], place: usize)
+    requires { place + size (map length into.old) ≤ length bands.now }
+    ensures { into.new ≡ cut_by (map length into.old) (drop place bands.now) }
+{
+    let mut start = place;
+    for tick in 0..into.ticks() {
+        let end = start + into.row(tick).len();
+        into.write(tick, &bands[start..end]);
+        start = end;
+    }
 }
