@@ -181,3 +181,8 @@ module _ {heads : List Head} {bands : List Interval} {tube spare : Tube} {most_h
       ∙ ap (λ cut. cut_by cut rest) (same-shape into shape)
       ∙ ap (cut_by (map length tube)) (left ∙ ap (λ m. drop (k * m) bands) (divided ∙ part-size))
       ∙ sym its-tube
+
+  -- a copy of the last tube has room for it
+  pub copy_fits : (copy : Tube) → copy ≡ tube → HasShapeOf copy (numbered history k).tube
+  copy_fits copy same = ap (map length) same
+      ∙ sym (ap (map length) its-tube ∙ cut_shape (map length tube) (drop (k * size (map length tube)) bands) enough)

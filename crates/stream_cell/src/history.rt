@@ -119,6 +119,16 @@ impl History {
         copy_rows(bands, into);
     }
 
+    /// A copy of the tube of a version.
+    pub fn tube(&self, alloc: Global, version: usize) -> Result<Tube, AllocError>
+        requires { version < length self.now }
+        ensures { IfOk result (λ tube. tube ≡ (numbered self.now version).tube) }
+    {
+        let mut tube = self.last.copied(alloc)?;
+        self.copy_tube(version, &mut tube);
+        Ok(tube)
+    }
+
     /// Copies the last version's tube, and answers its number and its stamp.
     pub fn show(&self, into: &mut Tube) -> (u32, u64)
         requires shape { HasShapeOf into.old (newest self.now).tube }
