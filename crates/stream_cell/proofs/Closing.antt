@@ -1,6 +1,5 @@
 -- A seat that stands for all passes leaves none to the others: nobody has the turn, and the history is at home.
-use Rattle.std.proofs.Common.{◌≡◌, ◌⊎◌, ℕ, zero, suc, ◌+◌, ◌<◌, ◌≤◌, Bool, true, false, cond, List, [], ◌∷◌, ◌++◌, All, Contains, length, length-append, map, get_or, sum_by, count_by, nat_eq, ne_eqb, Some, lt-ltb, if◌then◌else◌, inl, inr, ⊎_elim, refl, sym, ap, ◌∙◌, subst, arith}
-use Rattle.std.specs.List.{AllByRecursion}
+use Rattle.std.proofs.Common.{◌≡◌, ℕ, zero, suc, ◌+◌, ◌<◌, cond, List, [], ◌∷◌, ◌++◌, All, Contains, length, length-append, map, sum_by, count_by, nat_eq, ne_eqb, Some, lt-ltb, if◌then◌else◌, inl, inr, ⊎_elim, refl, sym, ap, ◌∙◌, subst, arith}
 use Rattle.std.proofs.lemmas.List.{length-map, map-append}
 use Rattle.std.proofs.lemmas.List.Elements.{All-append, All-cons, All-head, All-tail, All-nil, All-from_recursion, All-map, All-pop, All-weaker, Contains-append_cases, Contains-append_left, Contains-append_right}
 use Rattle.std.proofs.lemmas.List.Sums.{sum_by-cons}
@@ -15,7 +14,7 @@ use Rattle.stream_cell.specs.declared.passes.StreamCell.{StreamCell}
 use Rattle.stream_cell.specs.declared.view.Opening.{Opening}
 use Rattle.stream_cell.specs.declared.view.PassView.{PassView}
 use Rattle.stream_cell.specs.declared.view.Turn.TheVariants.{Free}
-use Rattle.stream_cell.specs.Cell.{IsAmid, IsCell, is_taken, turns_in, times_in, passes_in}
+use Rattle.stream_cell.specs.Cell.{IsAmid, IsCell, is_taken, times_in}
 use Rattle.stream_cell.specs.Passes.{IsOf}
 use Rattle.stream_cell.specs.Seats.{IsClosedBy, IsPassOf, opening_of, pass_view, passes_of}
 use Rattle.stream_cell.specs.Steps.{MyMe}

@@ -58,11 +58,11 @@ inside-length [] (B ∷ Bs) h = absurd h
 inside-length (A ∷ As) [] h = absurd h
 inside-length (A ∷ As) (B ∷ Bs) h = let rest = inside-length As Bs h.1 in omega arith
 
-within-shape : (A B : Tube) → IsWithin A B → HasShapeOf A B
-within-shape [] [] h = refl
-within-shape [] (B ∷ Bs) h = absurd h
-within-shape (A ∷ As) [] h = absurd h
-within-shape (A ∷ As) (B ∷ Bs) h = same_cons _ _ _ _ (inside-length A B h.0) (within-shape As Bs h.1)
+pub within_shape : (A B : Tube) → IsWithin A B → HasShapeOf A B
+within_shape [] [] h = refl
+within_shape [] (B ∷ Bs) h = absurd h
+within_shape (A ∷ As) [] h = absurd h
+within_shape (A ∷ As) (B ∷ Bs) h = same_cons _ _ _ _ (inside-length A B h.0) (within_shape As Bs h.1)
 
 -- the opening tube alone
 first-alone : (k : ℕ) → k < 1 → k ≡ 0
@@ -165,7 +165,7 @@ pub newest_shape : (opening renewal : Tube) (history : History) → IsHistoryOf 
 newest_shape opening renewal history is shape =
     let there : 0 < length history = is.ordered.opened in
     let last : length history - 1 < length history = omega arith in
-    within-shape (newest history).tube opening (is.inside (length history - 1) last) ∙ shape
+    within_shape (newest history).tube opening (is.inside (length history - 1) last) ∙ shape
 
 pub newest_stamp : (opening : Tube) (history : History) → IsHistoryOf opening history → (newest history).stamp + 1 < 2 ^ 64
 newest_stamp opening history is =

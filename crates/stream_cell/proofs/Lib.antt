@@ -6,6 +6,7 @@ pub mod Growing
 pub mod Keeping
 pub mod Opened
 pub mod Passing
+pub mod Reading
 pub mod Seating
 pub mod Stepping
 pub mod Views

@@ -1,5 +1,5 @@
 -- A cell as it is opened: one seat that stands for all passes, which have seen the opening tube alone.
-use Rattle.std.proofs.Common.{◌≡◌, ◌⊎◌, ℕ, zero, suc, ◌+◌, ◌<◌, ◌≤◌, true, false, cond, List, [], ◌∷◌, ◌++◌, length, map, sum_by, count_by, nat_eq, nat_lt, eq-eqb, ne_eqb, lt-ltb, le-ltb, if◌then◌else◌, inl, inr, ⊎_elim, refl, sym, ap, ◌∙◌, subst, arith}
+use Rattle.std.proofs.Common.{◌≡◌, ◌⊎◌, ℕ, zero, suc, ◌+◌, ◌<◌, ◌≤◌, cond, List, [], ◌∷◌, ◌++◌, length, map, sum_by, count_by, nat_eq, nat_lt, eq-eqb, ne_eqb, lt-ltb, le-ltb, if◌then◌else◌, inl, inr, ⊎_elim, refl, sym, ap, ◌∙◌, subst, arith}
 use Rattle.std.specs.List.{AllByRecursion}
 use Rattle.std.proofs.lemmas.Bool.{cases_lt}
 use Rattle.std.proofs.lemmas.List.Sums.{sum_by-cons}
@@ -14,7 +14,7 @@ use Rattle.stream_cell.specs.declared.view.PassView.{PassView}
 use Rattle.stream_cell.specs.Cell.{IsAmid, IsCell, is_taken, opening_passes, passes_from}
 use Rattle.stream_cell.specs.Dealing.{IsDealt}
 use Rattle.stream_cell.specs.Histories.{opened}
-use Rattle.stream_cell.specs.Passes.{IsOf, new_pass}
+use Rattle.stream_cell.specs.Passes.{new_pass}
 use Rattle.stream_cell.specs.Seats.{IsPassOf, opening_of}
 use Rattle.stream_cell.proofs.Growing.{opened_history}
 

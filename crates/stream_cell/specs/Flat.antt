@@ -40,3 +40,8 @@ pub record IsKept (heads : List Head) (bands : List Interval) (tube spare : Tube
   pub few : length heads ≤ 33
   pub head_room : 33 ≤ most_heads
   pub band_room : 33 * size (map length tube) ≤ most_bands
+
+-- the rows before this tick are copied, those behind it are as they were, and these bands are left
+pub record IsCopied (bands : List Interval) (old now : Tube) (tick : ℕ) (rest : List Interval) : Type 0 where
+  pub left : rest ≡ drop (size (take tick (map length old))) bands
+  pub rows : now ≡ take tick (cut_by (map length old) bands) ++ drop tick old

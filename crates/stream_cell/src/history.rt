@@ -1,5 +1,5 @@
 use crate::head::{CellMet, Head, Uses};
-use crate::rows::{about, append, append_rows};
+use crate::rows::{about, append, append_rows, copy_rows};
 use quant::Band;
 use std::alloc::{AllocError, Global};
 use std::marker::Model;
@@ -63,6 +63,70 @@ impl History {
         ensures { result ≡ length self.now }
     {
         self.heads.len()
+    }
+
+    // What a version has beside its tube.
+    fn head(&self, version: usize) -> &Head
+        requires { version < length self.now }
+        ensures number { result.now.number ≡ (numbered self.now version).number }
+        ensures maker { result.now.maker ≡ (numbered self.now version).maker }
+        ensures stamp { result.now.stamp ≡ (numbered self.now version).stamp }
+        ensures refs { result.now.refs ≡ (numbered self.now version).refs }
+    {
+        &self.heads[version]
+    }
+
+    /// The number of a version.
+    pub fn number(&self, version: usize) -> u32
+        requires { version < length self.now }
+        ensures { result ≡ (numbered self.now version).number }
+    {
+        self.head(version).number
+    }
+
+    /// Which pass made a version. Nobody made version 0, for which it is 0.
+    pub fn maker(&self, version: usize) -> u32
+        requires { version < length self.now }
+        ensures { result ≡ (numbered self.now version).maker }
+    {
+        self.head(version).maker
+    }
+
+    /// The stamp of a version.
+    pub fn stamp(&self, version: usize) -> u64
+        requires { version < length self.now }
+        ensures { result ≡ (numbered self.now version).stamp }
+    {
+        self.head(version).stamp
+    }
+
+    /// The numbers of the versions that a version was made from, in port order.
+    pub fn refs(&self, version: usize) -> &Refs
+        requires { version < length self.now }
+        ensures { result.now ≡ (numbered self.now version).refs }
+    {
+        &self.head(version).refs
+    }
+
+    /// Copies the tube of a version.
+    pub fn copy_tube(&self, version: usize, into: &mut Tube)
+        requires version { version < length self.now }
+        requires shape { HasShapeOf into.old (numbered self.now version).tube }
+        ensures { into.new ≡ (numbered self.now version).tube }
+    {
+        let size = self.bands.len() / self.heads.len();
+        let (_, bands) = self.bands.split_at(version * size);
+        copy_rows(bands, into);
+    }
+
+    /// A copy of the tube of a version.
+    pub fn tube(&self, alloc: Global, version: usize) -> Result<Tube, AllocError>
+        requires { version < length self.now }
+        ensures { IfOk result (λ tube. tube ≡ (numbered self.now version).tube) }
+    {
+        let mut tube = self.last.copied(alloc)?;
+        self.copy_tube(version, &mut tube);
+        Ok(tube)
     }
 
     /// Copies the last version's tube, and answers its number and its stamp.

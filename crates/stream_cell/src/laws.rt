@@ -15,6 +15,12 @@ pub fn histories_begin_with_their_opening()
         Judges answer old maker renewal uses new → IsHistoryOf opening new }
 {}
 
+/// Each version of a history has the shape of the tube that it begins with.
+pub fn versions_have_one_shape()
+    ensures { (opening : Tube) (history : History) → IsHistoryOf opening history → (k : ℕ) → k < length history →
+        HasShapeOf (numbered history k).tube opening }
+{}
+
 /// The last version of a history has the shape of the tube that it begins with, and a stamp that leaves room for a later one.
 pub fn last_versions_can_be_met()
     ensures shape { (opening renewal : Tube) (history : History) → IsHistoryOf opening history →

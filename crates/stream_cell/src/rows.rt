@@ -1,8 +1,8 @@
 //! The bands of a tube behind those of others in one vector.
 
-ghost use Rattle.std.specs.Prelude.{◌≡◌, ◌+◌, ◌<◌, ◌≤◌, [], ◌∷◌, ◌++◌, length, IsOk, OnOk};
+ghost use Rattle.std.specs.Prelude.{◌≡◌, ◌+◌, ◌<◌, ◌≤◌, [], ◌∷◌, ◌++◌, length, map, IsOk, OnOk};
 ghost use Rattle.std.specs.Vec.{vec_capacity, vec_len};
-ghost use Rattle.stream_cell.specs.Flat.{flat};
+ghost use Rattle.stream_cell.specs.Flat.{cut_by, flat, size};
 
 use crate::head::Head;
 use quant::Band;
@@ -42,4 +42,17 @@ pub(crate) fn append(heads: &mut Vec<Head>, bands: &mut Vec<Band>, head: Head, t
     let Ok(()) = append_rows(bands, tube) else {
         unreachable!()
     };
+}
+
+/// Copies bands, tick after tick.
+pub(crate) fn copy_rows(bands: &[Band], into: &mut Tube)
+    requires { size (map length into.old) ≤ length bands.now }
+    ensures { into.new ≡ cut_by (map length into.old) bands.now }
+{
+    let mut left = bands;
+    for tick in 0..into.ticks() {
+        let (row, rest) = left.split_at(into.row(tick).len());
+        into.write(tick, row);
+        left = rest;
+    }
 }

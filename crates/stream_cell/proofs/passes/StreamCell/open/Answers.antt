@@ -1,4 +1,3 @@
-use Rattle.std.proofs.Common.{◌≡◌, rules}
 use Rattle.stream_cell.proofs.Opened.{opens, one_slot}
 use Rattle.stream_cell.proofs.passes.StreamCell.open.Goals as goal
 

@@ -1,0 +1,8 @@
+//! What workers make of a window's streams, for the board that adopts it.
+#![tactic(auto)]
+
+mod gathering;
+mod laws;
+
+pub use gathering::gather;
+pub use laws::gathered_histories_can_be_adopted;
