@@ -93,5 +93,5 @@ judges_at opening renewal uses answer v w history after begins is judges now of 
 pub meets_or_stays : (opening : Tube) (answer : CellMet) (old : PassView) (renewal : Tube) (uses : Uses) (new : PassView) →
     Meets opening answer old renewal uses new → MeetsOrStays opening answer old renewal uses new
 meets_or_stays opening answer old renewal uses new = ⊎_elim
-    (λ (busy : (answer ≡ met.Busy) × (new ≡ missed old)). inl (busy.0, (ap (λ (v : PassView). v.number) busy.1, ap (λ (v : PassView). v.seen) busy.1, ap (λ (v : PassView). v.made) busy.1)))
+    (λ (busy : (answer ≡ met.Busy) × (new ≡ missed old)). inl (busy.0, (ap (λ (v : PassView). v.number) busy.1, ap (λ (v : PassView). v.seen) busy.1, ap (λ (v : PassView). v.made) busy.1, ap (λ (v : PassView). v.turn) busy.1)))
     (λ (now : JudgesNow opening answer old renewal uses new). inr now)

@@ -66,9 +66,9 @@ abbrev pub Meets : Tube → CellMet → PassView → Tube → Uses → PassView 
 Meets opening answer old renewal uses new =
     ((answer ≡ met.Busy) × (new ≡ missed old)) ⊎ JudgesNow opening answer old renewal uses new
 
--- its number, and what it has seen and made, stay
+-- its number, and what it has seen and made, stay, and it does not have the turn
 abbrev pub Stays : PassView → PassView → Type 0
-Stays old new = (new.number ≡ old.number) × (new.seen ≡ old.seen) × (new.made ≡ old.made)
+Stays old new = (new.number ≡ old.number) × (new.seen ≡ old.seen) × (new.made ≡ old.made) × (new.turn ≡ Free)
 
 -- the same answers, where it is not said why one is busy
 abbrev pub LooksOrStays : Tube → Look → Tube → PassView → Tube → PassView → Type 0
