@@ -11,8 +11,8 @@ use Rattle.stream_cell.proofs.Flats.{newest_pushed}
 pub begins_itself : (history : History) → Begins history history
 begins_itself history = ([], sym (append-nil history))
 
-begins-more : (seen history : History) (version : Version) → Begins seen history → Begins seen (history ++ version ∷ [])
-begins-more seen history version begins =
+pub begins_more : (seen history : History) (version : Version) → Begins seen history → Begins seen (history ++ version ∷ [])
+begins_more seen history version begins =
     (begins.0 ++ version ∷ [], ap (λ (all : History). all ++ version ∷ []) begins.1 ∙ append_assoc seen begins.0 (version ∷ []))
 
 -- what begins a history has its first version
@@ -47,7 +47,7 @@ made-else pass version else =
 -- who did not make it is of the longer history too
 pub of_more : (history : History) (version : Version) (v : PassView) → version.maker ≢ v.number → IsOf history v → IsOf (history ++ version ∷ []) v
 of_more history version v else of = record {
-  begins = begins-more v.seen history version of.begins;
+  begins = begins_more v.seen history version of.begins;
   some = of.some;
   made = made-more v.number history version
       ∙ (ap (λ numbers. made_by v.number history ++ numbers) (made-else v.number version else)

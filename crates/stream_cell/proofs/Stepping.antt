@@ -19,6 +19,7 @@ use Rattle.stream_cell.specs.Histories.{IsHistoryOf}
 use Rattle.stream_cell.specs.Passes.{IsOf, missed}
 use Rattle.stream_cell.specs.Seats.{the_one}
 use Rattle.stream_cell.specs.Steps.{MyMe, with_history, holding, reading, appending, free, seized, read, appended, released}
+use Rattle.stream_cell.proofs.Growing.{first_tube}
 use Rattle.stream_cell.proofs.Passing.{first_stays, of_more, of_whole, of_own}
 use Rattle.stream_cell.proofs.Seating.{first_out}
 use Rattle.stream_cell.proofs.Views.{sum_set, sum_one, sum_two, all_one, all_set, all_both, all_exchanged, count_one, count_yes, count_none}
@@ -222,7 +223,7 @@ module _ (about : Opening) where
   -- who has the history reads how many versions there are
   begins-there : (history : History) (v : PassView) → IsHistoryOf about.tube history → IsOf history v → IsHistoryOf (numbered v.seen 0).tube history
   begins-there history v is of =
-      subst (λ tube. IsHistoryOf tube history) (sym (ap (λ (one : Version). one.tube) (first_stays v.seen history of.begins of.some) ∙ is.opens)) is
+      subst (λ tube. IsHistoryOf tube history) (sym (ap (λ (one : Version). one.tube) (first_stays v.seen history of.begins of.some) ∙ first_tube about.tube history is)) is
 
   reads-all : (s : S) (r : IsCell about s) (id : ℕ) (v : PassView) → get_elem? s.views id ≡ some (v ∷ []) → v.turn ≡ Held r.history →
       IsCell about (record { words = set s.words 1 (slice_index s.words 1); homes = s.homes; views = set s.views id (reading v r.history ∷ []) })

@@ -3,7 +3,9 @@ use mathlib.Core.Option.{none}
 use Rattle.atomic_table.specs.Table.{Allows, step}
 use Rattle.stream_cell.specs.Cell.{IsCell}
 use Rattle.stream_cell.specs.Histories.{IsHistoryOf}
+use Rattle.stream_cell.specs.Seats.{opening_of}
 use Rattle.stream_cell.specs.Steps.{IsAt, MyMe, holding, read, reading}
+use Rattle.stream_cell.proofs.Growing.{first_tube}
 use Rattle.stream_cell.proofs.Stepping.{reads}
 use Rattle.stream_cell.proofs.passes.StreamCell.read.Goals as goal
 
@@ -26,6 +28,6 @@ returns c = λ v history at.
       me = told.3;
       number = at.number;
       some = told.2.some;
-      opens = ordered.opens;
+      opens = first_tube (opening_of c.args.self.now) history ordered;
     } in
     (record { at = now; turn = refl; ordered = ordered; of = told.2 }, told.0)
