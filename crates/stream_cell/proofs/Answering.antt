@@ -18,6 +18,7 @@ use Rattle.stream_cell.specs.Seats.{opening_of}
 use Rattle.stream_cell.specs.Steps.{IsAppended, IsAt, IsRead, appending, counting, free, reading}
 use Rattle.stream_cell.proofs.Flats.{newest_pushed}
 use Rattle.stream_cell.proofs.Growing.{judged_history}
+use Rattle.stream_cell.proofs.Passing.{of_turning}
 
 -- a version was put behind those that the pass has read
 pub appended_of : (cell : StreamCell) (old new : CellPass) (v : PassView) (renewal : Tube) (uses : Uses) (number stamp : ℕ) (after : History) →
@@ -27,7 +28,7 @@ appended_of cell old new v renewal uses number stamp after is shape base at judg
   at = at;
   turn = is.turn;
   last = (next_version v.seen v.number renewal uses, judges.5, refl);
-  ordered = judged_history (opening_of cell) renewal v.seen after v.number uses (met.Narrowed number stamp) is.ordered shape base judges;
+  ordered = judged_history (opening_of cell) renewal v.seen after v.number uses (met.Narrowed number stamp) is.at.ordered shape base judges;
 }
 
 pub narrowed_is : (v : PassView) (renewal : Tube) (uses : Uses) (number stamp : ℕ) (after : History) →
@@ -60,13 +61,8 @@ still_read cell old new v answer after is at stays =
     let now : IsRead cell new v = record {
       at = subst (λ (h : History). IsAt cell new v ((0, h) ∷ [])) stays.0 at;
       turn = is.turn;
-      ordered = is.ordered;
-      of = is.of;
     } in
     subst (IsRead cell new) (sym same) now
-
-freed : (history : History) (u : PassView) → IsOf history u → IsOf history (free u)
-freed history u of = record { begins = of.begins; some = of.some; made = of.made; knows = of.knows }
 
 -- who read and made nothing
 read-is : (v : PassView) (history : History) → free (reading v history) ≡ looked v history []
@@ -79,7 +75,7 @@ pub looks_at : (opening into shows : Tube) (number stamp : ℕ) (v w : PassView)
 looks_at opening into shows number stamp v w history begins is of after copied =
     let e = read-is v history in
     subst (Looks opening (shown.Seen number stamp) into v shows) (sym (after ∙ e))
-    (begins, is, subst (IsOf history) e (freed history (reading v history) of), refl, copied.0, copied.1, copied.2)
+    (begins, is, subst (IsOf history) e (of_turning history (reading v history) Free (v.looks + 1) v.misses of), refl, copied.0, copied.1, copied.2)
 
 pub judges_at : (opening renewal : Tube) (uses : Uses) (answer : CellMet) (v w : PassView) (history after : History) →
     Begins v.seen history → IsHistoryOf opening history → Judges answer history v.number renewal uses after →
@@ -87,7 +83,7 @@ pub judges_at : (opening renewal : Tube) (uses : Uses) (answer : CellMet) (v w :
     JudgesNow opening answer v renewal uses w
 judges_at opening renewal uses answer v w history after begins is judges now of made =
     subst (JudgesNow opening answer v renewal uses) (sym made)
-    (history, begins, is, judges, now, freed after (counting (reading v history) answer after) of, refl)
+    (history, begins, is, judges, now, of_turning after (counting (reading v history) answer after) Free (v.looks + 1) v.misses of, refl)
 
 -- a busy pass stays, whatever it counts
 pub meets_or_stays : (opening : Tube) (answer : CellMet) (old : PassView) (renewal : Tube) (uses : Uses) (new : PassView) →

@@ -6,15 +6,15 @@ use Rattle.std.proofs.lemmas.List.Sums.{sum_by-cons}
 use mathlib.Core.Option.{some}
 use Rattle.atomic_table.specs.Table.{opening}
 use Rattle.relaxation.specs.Tube.{Tube}
-use Rattle.relaxation.specs.History.{History, numbered}
+use Rattle.relaxation.specs.History.{History}
 use Rattle.stream_cell.specs.declared.passes.CellPass.{CellPass}
 use Rattle.stream_cell.specs.declared.passes.StreamCell.{StreamCell}
 use Rattle.stream_cell.specs.declared.view.Opening.{Opening}
 use Rattle.stream_cell.specs.declared.view.PassView.{PassView}
 use Rattle.stream_cell.specs.Cell.{IsAmid, IsCell, is_taken, opening_passes, passes_from}
 use Rattle.stream_cell.specs.Dealing.{IsDealt}
-use Rattle.stream_cell.specs.Histories.{opened}
-use Rattle.stream_cell.specs.Passes.{new_pass}
+use Rattle.stream_cell.specs.Histories.{IsHistoryOf, opened}
+use Rattle.stream_cell.specs.Passes.{IsOf, new_pass}
 use Rattle.stream_cell.specs.Seats.{IsPassOf, opening_of}
 use Rattle.stream_cell.proofs.Growing.{opened_history}
 
@@ -62,9 +62,12 @@ module _ (tube : Tube) where
     | inr l ↦ none-from k 0 n (inr (omega arith)) ∙ ap (λ b. if b then 1 else 0) (sym (le-ltb k n l))
   ]
 
+  new-of : (number : ℕ) → IsOf (opened tube) (new_pass tube number)
+  new-of number = record { begins = ([], refl); some = omega arith; made = refl; knows = refl }
+
   new-amid : (number : ℕ) → IsAmid (opened tube) (new_pass tube number)
   new-amid number = record {
-    of = record { begins = ([], refl); some = omega arith; made = refl; knows = refl };
+    of = new-of number;
     holds = λ held e. cc;
     reads = λ e. cc;
   }
@@ -104,6 +107,6 @@ dealt_pass cell pass dealt = record {
   me = dealt.alone.me;
   number = ap (λ (v : PassView). v.number) (sym dealt.fresh);
   free = ap (λ (v : PassView). v.turn) dealt.fresh;
-  some = subst (λ (v : PassView). 0 < length v.seen) (sym dealt.fresh) (omega arith);
-  opens = ap (λ (v : PassView). (numbered v.seen 0).tube) dealt.fresh;
+  ordered = subst (λ (v : PassView). IsHistoryOf (opening_of cell) v.seen) (sym dealt.fresh) (opened_history (opening_of cell));
+  of = subst (λ (v : PassView). IsOf v.seen v) (sym dealt.fresh) (new-of (opening_of cell) pass.number);
 }

@@ -4,6 +4,7 @@ use Rattle.std.proofs.lemmas.List.{get_or_append_left, map-append}
 use Rattle.std.proofs.lemmas.List.Elements.{filter-append}
 use Rattle.relaxation.specs.History.{Version, History, Begins, no_version, numbered}
 use Rattle.stream_cell.specs.declared.view.PassView.{PassView}
+use Rattle.stream_cell.specs.declared.view.Turn.{Turn}
 use Rattle.stream_cell.specs.Passes.{IsOf, made_by}
 use Rattle.stream_cell.specs.Steps.{reading, appending}
 use Rattle.stream_cell.proofs.Flats.{newest_pushed}
@@ -54,6 +55,11 @@ of_more history version v else of = record {
       ∙ (append-nil (made_by v.number history) ∙ of.made));
   knows = of.knows;
 }
+
+-- what a pass counts of its steps, and whether it has the turn, changes nothing of it
+pub of_turning : (history : History) (v : PassView) (turn : Turn) (looks misses : ℕ) → IsOf history v →
+    IsOf history (record { number = v.number; seen = v.seen; made = v.made; turn = turn; looks = looks; misses = misses })
+of_turning history v turn looks misses of = record { begins = of.begins; some = of.some; made = of.made; knows = of.knows }
 
 -- who read the whole is of it
 pub of_whole : (history : History) (v : PassView) → IsOf history v → IsOf history (reading v history)

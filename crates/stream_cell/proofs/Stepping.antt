@@ -20,7 +20,7 @@ use Rattle.stream_cell.specs.Passes.{IsOf, missed}
 use Rattle.stream_cell.specs.Seats.{the_one}
 use Rattle.stream_cell.specs.Steps.{MyMe, with_history, holding, reading, appending, free, seized, read, appended, released}
 use Rattle.stream_cell.proofs.Growing.{first_tube}
-use Rattle.stream_cell.proofs.Passing.{first_stays, of_more, of_whole, of_own}
+use Rattle.stream_cell.proofs.Passing.{first_stays, of_more, of_turning, of_whole, of_own}
 use Rattle.stream_cell.proofs.Seating.{first_out}
 use Rattle.stream_cell.proofs.Views.{sum_set, sum_one, sum_two, all_one, all_set, all_both, all_exchanged, count_one, count_yes, count_none}
 
@@ -39,19 +39,16 @@ held-in Read = []
 abbrev turning : PassView → Turn → ℕ → ℕ → PassView
 turning v turn looks misses = record { number = v.number; seen = v.seen; made = v.made; turn = turn; looks = looks; misses = misses }
 
-of-turning : (history : History) (v : PassView) (turn : Turn) (looks misses : ℕ) → IsOf history v → IsOf history (turning v turn looks misses)
-of-turning history v turn looks misses of = record { begins = of.begins; some = of.some; made = of.made; knows = of.knows }
-
 free-amid : (history : History) (v : PassView) (looks misses : ℕ) → IsOf history v → IsAmid history (turning v Free looks misses)
 free-amid history v looks misses of = record {
-  of = of-turning history v Free looks misses of;
+  of = of_turning history v Free looks misses of;
   holds = λ held e. absurd (true≢false (sym (ap is_taken e)));
   reads = λ e. absurd (true≢false (sym (ap is_taken e)));
 }
 
 held-amid : (history : History) (v : PassView) (looks misses : ℕ) → IsOf history v → IsAmid history (turning v (Held history) looks misses)
 held-amid history v looks misses of = record {
-  of = of-turning history v (Held history) looks misses of;
+  of = of_turning history v (Held history) looks misses of;
   holds = λ held e. ap held-in (sym e);
   reads = λ e. absurd (true≢false (ap is-held e));
 }

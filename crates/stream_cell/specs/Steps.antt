@@ -1,6 +1,6 @@
 -- Words of the proofs: a reader of the contracts needs none of them.
 -- What each step tells the pass that makes it.
-use Rattle.std.specs.Prelude.{◌≡◌, ◌≢◌, ◌+◌, ◌<◌, ◌∷◌, ◌++◌, ℕ, [], List, length}
+use Rattle.std.specs.Prelude.{◌≡◌, ◌≢◌, ◌+◌, ◌∷◌, ◌++◌, ℕ, [], List}
 use Rattle.atomic_table.specs.Table.{Step, Me}
 use Rattle.relaxation.specs.History.{Version, History, Begins, numbered}
 use Rattle.stream_cell.specs.declared.head.CellMet.{CellMet}
@@ -61,20 +61,18 @@ appended st me n after = (v : PassView) (history : History) → me ≡ with_hist
 abbrev pub released : Step History → MyMe → ℕ → MyMe → Type 0
 released st me n after = (v : PassView) (history : History) → me ≡ with_history v history → after ≡ (free v ∷ [], [])
 
--- the seat is of this cell, stands for this pass, and has these values out with it
+-- the seat is of this cell, stands for this pass, which has seen a history and knows what it made in it, and has these values out with it
 pub record IsAt (cell : StreamCell) (pass : CellPass) (v : PassView) (out : List (ℕ × History)) : Type 0 where
   pub table : pass.seat.table_id ≡ cell.table.shared.table_id
   pub me : pass.seat.me ≡ (v ∷ [], out)
   pub number : pass.number ≡ v.number
-  pub some : 0 < length v.seen
-  pub opens : (numbered v.seen 0).tube ≡ opening_of cell
+  pub ordered : IsHistoryOf (opening_of cell) v.seen
+  pub of : IsOf v.seen v
 
--- the pass has the turn and the history, has read the whole of it, and is of it
+-- the pass has the turn and the history, and has read the whole of it
 pub record IsRead (cell : StreamCell) (pass : CellPass) (v : PassView) : Type 0 where
   pub at : IsAt cell pass v ((0, v.seen) ∷ [])
   pub turn : v.turn ≡ Read
-  pub ordered : IsHistoryOf (opening_of cell) v.seen
-  pub of : IsOf v.seen v
 
 -- the version that was put behind those that the pass has read is its own, and what results is a history
 pub record IsAppended (cell : StreamCell) (pass : CellPass) (v : PassView) (history : History) : Type 0 where

@@ -32,7 +32,7 @@ returns-clause-judges c =
     let narrowed = c.narrow-met.ensures (reading v held.0) read.0 in
     let free = c.release.ensures (counting (reading v held.0) c.narrow-met.result narrowed.0) narrowed.1 in
     inr (judges_at (opening_of c.args.self.now) c.args.renewal.now c.args.uses.now c.narrow-met.result v _ held.0 narrowed.0
-    read.1 read.0.ordered narrowed.2 narrowed.1.ordered narrowed.1.of free.1)
+    read.1 read.0.at.ordered narrowed.2 narrowed.1.at.ordered narrowed.1.at.of free.1)
 
 pub returns-clause-meets : goal.returns-clause-meets
 returns-clause-meets c = meets_or_stays _ _ (pass_view c.args.pass.now) _ _ _ (returns-clause-judges c)

@@ -2,9 +2,7 @@ use Rattle.std.proofs.Common.{rules, ◌∷◌, [], ◌+◌, refl, ◌%◌, ◌^
 use mathlib.Core.Option.{none}
 use Rattle.atomic_table.specs.Table.{Allows, step}
 use Rattle.stream_cell.specs.Cell.{IsCell}
-use Rattle.stream_cell.specs.Seats.{opening_of}
 use Rattle.stream_cell.specs.Steps.{IsAt, MyMe, appended, appending}
-use Rattle.stream_cell.proofs.Growing.{first_tube}
 use Rattle.stream_cell.proofs.Stepping.{appends}
 use Rattle.stream_cell.proofs.passes.StreamCell.append.Goals as goal
 
@@ -26,7 +24,7 @@ returns c = λ v history is.
       table = c.fetch_add.ensures.0 ∙ is.at.table;
       me = told.1;
       number = is.at.number;
-      some = told.0.some;
-      opens = first_tube (opening_of c.args.self.now) history is.ordered;
+      ordered = is.ordered;
+      of = told.0;
     } in
-    record { at = now; turn = refl; ordered = is.ordered; of = told.0 }
+    record { at = now; turn = refl }
