@@ -15,7 +15,8 @@ use Rattle.stream_cell.specs.declared.view.Turn.TheVariants.{Free, Read}
 use Rattle.stream_cell.specs.Histories.{newest, next_version, IsHistoryOf, Judges}
 use Rattle.stream_cell.specs.Passes.{IsOf, JudgesNow, Looks, Meets, MeetsOrStays, looked, made_of, missed}
 use Rattle.stream_cell.specs.Seats.{opening_of}
-use Rattle.stream_cell.specs.Steps.{IsAppended, IsAt, IsRead, appending, counting, free, reading}
+use Rattle.stream_cell.specs.Kinds.{appending, free, reading}
+use Rattle.stream_cell.specs.Steps.{IsAppended, IsAt, IsRead, counting}
 use Rattle.stream_cell.proofs.Flats.{newest_pushed}
 use Rattle.stream_cell.proofs.Growing.{judged_history}
 use Rattle.stream_cell.proofs.Passing.{of_turning}

@@ -17,7 +17,7 @@ use Rattle.stream_cell.specs.declared.view.Turn.TheVariants.{Free}
 use Rattle.stream_cell.specs.Cell.{IsAmid, IsCell, is_taken, times_in}
 use Rattle.stream_cell.specs.Passes.{IsOf}
 use Rattle.stream_cell.specs.Seats.{IsClosedBy, IsPassOf, opening_of, pass_view, passes_of}
-use Rattle.stream_cell.specs.Steps.{MyMe}
+use Rattle.stream_cell.specs.Kinds.{MyMe}
 use Rattle.stream_cell.proofs.Views.{sum_one, all_one, all_other}
 
 -- an empty list, by its length

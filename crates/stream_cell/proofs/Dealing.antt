@@ -16,7 +16,7 @@ use Rattle.stream_cell.specs.Cell.{IsAmid, IsCell, turns_in, passes_from}
 use Rattle.stream_cell.specs.Dealing.{IsDealt}
 use Rattle.stream_cell.specs.Passes.{new_pass}
 use Rattle.stream_cell.specs.Seats.{pass_view, the_one}
-use Rattle.stream_cell.specs.Steps.{MyMe}
+use Rattle.stream_cell.specs.Kinds.{MyMe}
 use Rattle.stream_cell.proofs.Views.{sum_set, sum_push, count_append, all_one, all_set, all_append, all_push, all_take, all_drop}
 
 -- a number of a list of passes that is 0 for none, and for two lists together the sum

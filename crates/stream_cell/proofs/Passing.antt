@@ -6,7 +6,7 @@ use Rattle.relaxation.specs.History.{Version, History, Begins, no_version, numbe
 use Rattle.stream_cell.specs.declared.view.PassView.{PassView}
 use Rattle.stream_cell.specs.declared.view.Turn.{Turn}
 use Rattle.stream_cell.specs.Passes.{IsOf, made_by}
-use Rattle.stream_cell.specs.Steps.{reading, appending}
+use Rattle.stream_cell.specs.Kinds.{reading, appending}
 use Rattle.stream_cell.proofs.Flats.{newest_pushed}
 
 pub begins_itself : (history : History) → Begins history history

@@ -9,7 +9,8 @@ use Rattle.stream_cell.specs.declared.passes.CellPass.{CellPass}
 use Rattle.stream_cell.specs.Histories.{IsHistoryOf}
 use Rattle.stream_cell.specs.Passes.{IsOf}
 use Rattle.stream_cell.specs.Seats.{IsPassOf, opening_of, pass_view, the_one}
-use Rattle.stream_cell.specs.Steps.{IsAt, MyMe}
+use Rattle.stream_cell.specs.Kinds.{MyMe}
+use Rattle.stream_cell.specs.Steps.{IsAt}
 
 pub seated : (cell : StreamCell) (pass : CellPass) (v : PassView) → IsAt cell pass v [] → v.turn ≡ Free → IsPassOf cell pass × (pass_view pass ≡ v)
 seated cell pass v at turn =

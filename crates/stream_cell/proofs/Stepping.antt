@@ -18,7 +18,7 @@ use Rattle.stream_cell.specs.Cell.{IsAmid, IsCell, is_taken, passes_in, turns_in
 use Rattle.stream_cell.specs.Histories.{IsHistoryOf}
 use Rattle.stream_cell.specs.Passes.{IsOf, missed}
 use Rattle.stream_cell.specs.Seats.{the_one}
-use Rattle.stream_cell.specs.Steps.{MyMe, with_history, holding, reading, appending, free, seized, read, appended, released}
+use Rattle.stream_cell.specs.Kinds.{MyMe, with_history, holding, reading, appending, free, seized, read, appended, released}
 use Rattle.stream_cell.proofs.Growing.{first_tube}
 use Rattle.stream_cell.proofs.Passing.{first_stays, of_more, of_turning, of_whole, of_own}
 use Rattle.stream_cell.proofs.Seating.{first_out}

@@ -6,7 +6,8 @@ ghost use Rattle.tubes.specs.Shape.{HasShapeOf};
 ghost use Rattle.stream_cell.specs.Histories.{newest, Judges};
 ghost use Rattle.stream_cell.specs.Passes.{missed};
 ghost use Rattle.stream_cell.specs.Seats.{IsPassOf, opening_of, pass_view};
-ghost use Rattle.stream_cell.specs.Steps.{IsAt, IsAppended, IsRead, appending, counting, free, holding, reading};
+ghost use Rattle.stream_cell.specs.Kinds.{appending, free, holding, reading};
+ghost use Rattle.stream_cell.specs.Steps.{IsAt, IsAppended, IsRead, counting};
 ghost use Rattle.stream_cell.specs.declared.view.PassView.{PassView};
 
 use crate::head::{CellMet, Uses};

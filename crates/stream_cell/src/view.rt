@@ -55,7 +55,7 @@ impl TableRule<History, LinkedList<PassView>, Opening> for CellTable {
 pub(crate) struct Seizing;
 
 impl Play<History, LinkedList<PassView>> for Seizing {
-    ghost use Rattle.stream_cell.specs.Steps.{seized};
+    ghost use Rattle.stream_cell.specs.Kinds.{seized};
 
     ghost then = { seized };
 }
@@ -64,7 +64,7 @@ impl Play<History, LinkedList<PassView>> for Seizing {
 pub(crate) struct Reading;
 
 impl Play<History, LinkedList<PassView>> for Reading {
-    ghost use Rattle.stream_cell.specs.Steps.{read};
+    ghost use Rattle.stream_cell.specs.Kinds.{read};
 
     ghost then = { read };
 }
@@ -73,7 +73,7 @@ impl Play<History, LinkedList<PassView>> for Reading {
 pub(crate) struct Appending;
 
 impl Play<History, LinkedList<PassView>> for Appending {
-    ghost use Rattle.stream_cell.specs.Steps.{appended};
+    ghost use Rattle.stream_cell.specs.Kinds.{appended};
 
     ghost then = { appended };
 }
@@ -82,7 +82,7 @@ impl Play<History, LinkedList<PassView>> for Appending {
 pub(crate) struct Releasing;
 
 impl Play<History, LinkedList<PassView>> for Releasing {
-    ghost use Rattle.stream_cell.specs.Steps.{released};
+    ghost use Rattle.stream_cell.specs.Kinds.{released};
 
     ghost then = { released };
 }

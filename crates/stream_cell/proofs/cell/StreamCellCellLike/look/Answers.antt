@@ -1,6 +1,7 @@
 use Rattle.std.proofs.Common.{sym, subst}
 use Rattle.stream_cell.specs.Seats.{opening_of, pass_view}
-use Rattle.stream_cell.specs.Steps.{IsRead, reading}
+use Rattle.stream_cell.specs.Kinds.{reading}
+use Rattle.stream_cell.specs.Steps.{IsRead}
 use Rattle.stream_cell.proofs.Answering.{looks_at}
 use Rattle.stream_cell.proofs.cell.StreamCellCellLike.look.Goals as goal
 

@@ -1,6 +1,7 @@
 use Rattle.std.proofs.Common.{inr}
 use Rattle.stream_cell.specs.Seats.{opening_of, pass_view}
-use Rattle.stream_cell.specs.Steps.{counting, reading}
+use Rattle.stream_cell.specs.Kinds.{reading}
+use Rattle.stream_cell.specs.Steps.{counting}
 use Rattle.stream_cell.proofs.Answering.{judges_at, meets_or_stays}
 use Rattle.stream_cell.proofs.cell.StreamCellCellLike.meet.Goals as goal
 

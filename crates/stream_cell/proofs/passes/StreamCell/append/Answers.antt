@@ -2,7 +2,8 @@ use Rattle.std.proofs.Common.{rules, ◌∷◌, [], ◌+◌, refl, ◌%◌, ◌^
 use mathlib.Core.Option.{none}
 use Rattle.atomic_table.specs.Table.{Allows, step}
 use Rattle.stream_cell.specs.Cell.{IsCell}
-use Rattle.stream_cell.specs.Steps.{IsAt, MyMe, appended, appending}
+use Rattle.stream_cell.specs.Kinds.{MyMe, appended, appending}
+use Rattle.stream_cell.specs.Steps.{IsAt}
 use Rattle.stream_cell.proofs.Stepping.{appends}
 use Rattle.stream_cell.proofs.passes.StreamCell.append.Goals as goal
 

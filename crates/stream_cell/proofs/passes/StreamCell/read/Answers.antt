@@ -4,7 +4,8 @@ use Rattle.atomic_table.specs.Table.{Allows, step}
 use Rattle.stream_cell.specs.Cell.{IsCell}
 use Rattle.stream_cell.specs.Histories.{IsHistoryOf}
 use Rattle.stream_cell.specs.Seats.{opening_of}
-use Rattle.stream_cell.specs.Steps.{IsAt, MyMe, holding, read, reading}
+use Rattle.stream_cell.specs.Kinds.{MyMe, holding, read, reading}
+use Rattle.stream_cell.specs.Steps.{IsAt}
 use Rattle.stream_cell.proofs.Growing.{first_tube}
 use Rattle.stream_cell.proofs.Stepping.{reads}
 use Rattle.stream_cell.proofs.passes.StreamCell.read.Goals as goal

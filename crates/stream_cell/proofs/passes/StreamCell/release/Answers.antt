@@ -3,7 +3,7 @@ use mathlib.Core.Option.{none}
 use Rattle.atomic_table.specs.Table.{Allows, step}
 use Rattle.stream_cell.specs.declared.view.Turn.TheVariants.{Free}
 use Rattle.stream_cell.specs.Cell.{IsCell}
-use Rattle.stream_cell.specs.Steps.{MyMe, free, released}
+use Rattle.stream_cell.specs.Kinds.{MyMe, free, released}
 use Rattle.stream_cell.proofs.Passing.{of_turning}
 use Rattle.stream_cell.proofs.Seating.{seated}
 use Rattle.stream_cell.proofs.Stepping.{releases}

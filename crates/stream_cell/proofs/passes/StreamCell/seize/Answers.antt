@@ -5,7 +5,7 @@ use Rattle.stream_cell.specs.declared.view.Turn.TheVariants.{Free, Held}
 use Rattle.stream_cell.specs.Cell.{IsCell}
 use Rattle.stream_cell.specs.Passes.{missed}
 use Rattle.stream_cell.specs.Seats.{pass_view}
-use Rattle.stream_cell.specs.Steps.{MyMe, seized}
+use Rattle.stream_cell.specs.Kinds.{MyMe, seized}
 use Rattle.stream_cell.proofs.Passing.{of_turning}
 use Rattle.stream_cell.proofs.Seating.{seated}
 use Rattle.stream_cell.proofs.Stepping.{seizes}
