@@ -36,7 +36,7 @@ pub narrowed_is : (v : PassView) (renewal : Tube) (uses : Uses) (number stamp : 
     Judges (met.Narrowed number stamp) v.seen v.number renewal uses after → appending v after ≡ counting v (met.Narrowed number stamp) after
 narrowed_is v renewal uses number stamp after judges =
     let last : newest after ≡ next_version v.seen v.number renewal uses = ap newest judges.5 ∙ newest_pushed v.seen (next_version v.seen v.number renewal uses) in
-    ap (λ k. record { number = v.number; seen = after; made = v.made ++ k ∷ []; turn = Read; looks = v.looks; misses = v.misses })
+    ap (λ k. record { number = v.number; passes = v.passes; seen = after; made = v.made ++ k ∷ []; turn = Read; looks = v.looks; misses = v.misses })
     (ap (λ (one : Version). one.number) last ∙ sym judges.3)
 
 -- else the history stays
@@ -49,7 +49,7 @@ stays_judged (met.Full number) old new maker renewal uses not judges = (judges.4
 stays_judged (met.Narrowed number stamp) old new maker renewal uses not judges = absurd (not number stamp refl)
 
 abbrev with-all : PassView → History → List ℕ → Turn → PassView
-with-all v seen made turn = record { number = v.number; seen = seen; made = made; turn = turn; looks = v.looks; misses = v.misses }
+with-all v seen made turn = record { number = v.number; passes = v.passes; seen = seen; made = made; turn = turn; looks = v.looks; misses = v.misses }
 
 pub still_read : (cell : StreamCell) (old new : CellPass) (v : PassView) (answer : CellMet) (after : History) → IsRead cell old v → IsAt cell new v ((0, after) ∷ []) →
     (after ≡ v.seen) × (made_of answer ≡ []) → IsRead cell new (counting v answer after)
@@ -67,7 +67,7 @@ still_read cell old new v answer after is at stays =
 
 -- who read and made nothing
 read-is : (v : PassView) (history : History) → free (reading v history) ≡ looked v history []
-read-is v history = ap (λ made. record { number = v.number; seen = history; made = made; turn = Free; looks = v.looks + 1; misses = v.misses }) (sym (append-nil v.made))
+read-is v history = ap (λ made. record { number = v.number; passes = v.passes; seen = history; made = made; turn = Free; looks = v.looks + 1; misses = v.misses }) (sym (append-nil v.made))
 
 pub looks_at : (opening into shows : Tube) (number stamp : ℕ) (v w : PassView) (history : History) →
     Begins v.seen history → IsHistoryOf opening history → IsOf history (reading v history) → w ≡ free (reading v history) →

@@ -58,7 +58,7 @@ of_more history version v else of = record {
 
 -- what a pass counts of its steps, and whether it has the turn, changes nothing of it
 pub of_turning : (history : History) (v : PassView) (turn : Turn) (looks misses : ℕ) → IsOf history v →
-    IsOf history (record { number = v.number; seen = v.seen; made = v.made; turn = turn; looks = looks; misses = misses })
+    IsOf history (record { number = v.number; passes = v.passes; seen = v.seen; made = v.made; turn = turn; looks = looks; misses = misses })
 of_turning history v turn looks misses of = record { begins = of.begins; some = of.some; made = of.made; knows = of.knows }
 
 -- who read the whole is of it

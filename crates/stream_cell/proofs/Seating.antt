@@ -19,6 +19,7 @@ seated cell pass v at turn =
         table = at.table;
         me = at.me ∙ ap (λ (u : PassView). (u ∷ [], [])) (sym same);
         number = at.number ∙ ap (λ (u : PassView). u.number) (sym same);
+        passes = ap (λ (u : PassView). u.passes) same ∙ at.passes;
         free = ap (λ (u : PassView). u.turn) same ∙ turn;
         ordered = subst (λ (u : PassView). IsHistoryOf (opening_of cell) u.seen) (sym same) at.ordered;
         of = subst (λ (u : PassView). IsOf u.seen u) (sym same) at.of;

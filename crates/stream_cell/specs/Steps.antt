@@ -9,13 +9,14 @@ use Rattle.stream_cell.specs.declared.passes.StreamCell.{StreamCell}
 use Rattle.stream_cell.specs.declared.passes.CellPass.{CellPass}
 use Rattle.stream_cell.specs.Histories.{IsHistoryOf}
 use Rattle.stream_cell.specs.Passes.{IsOf, made_of}
-use Rattle.stream_cell.specs.Seats.{opening_of}
+use Rattle.stream_cell.specs.Seats.{opening_of, passes_of}
 
 -- the seat is of this cell, stands for this pass, which has seen a history and knows what it made in it, and has these values out with it
 pub record IsAt (cell : StreamCell) (pass : CellPass) (v : PassView) (out : List (ℕ × History)) : Type 0 where
   pub table : pass.seat.table_id ≡ cell.table.shared.table_id
   pub me : pass.seat.me ≡ (v ∷ [], out)
   pub number : pass.number ≡ v.number
+  pub passes : v.passes ≡ passes_of cell
   pub ordered : IsHistoryOf (opening_of cell) v.seen
   pub of : IsOf v.seen v
 
@@ -33,5 +34,12 @@ pub record IsAppended (cell : StreamCell) (pass : CellPass) (v : PassView) (hist
 
 -- the same pass, once it has met the last version and counted what it appended
 abbrev pub counting : PassView → CellMet → History → PassView
-counting v met history =
-    record { number = v.number; seen = history; made = v.made ++ made_of met; turn = Read; looks = v.looks; misses = v.misses }
+counting v met history = record {
+  number = v.number;
+  passes = v.passes;
+  seen = history;
+  made = v.made ++ made_of met;
+  turn = Read;
+  looks = v.looks;
+  misses = v.misses;
+}

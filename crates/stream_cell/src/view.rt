@@ -19,6 +19,8 @@ pub enum Turn {
 pub struct PassView {
     /// Which pass of its cell it is, from 0.
     pub number: u32,
+    /// How many passes its cell has.
+    pub passes: u32,
     /// The versions that it has seen, oldest first.
     pub seen: History,
     /// The numbers of the versions that it made, oldest first.

@@ -1,4 +1,6 @@
-use Rattle.std.proofs.Common.{inr}
+use Rattle.std.proofs.Common.{inr, subst}
+use Rattle.stream_cell.specs.declared.head.CellMet.{CellMet}
+use Rattle.stream_cell.specs.Histories.{Judges}
 use Rattle.stream_cell.specs.Seats.{opening_of, pass_view}
 use Rattle.stream_cell.specs.Kinds.{reading}
 use Rattle.stream_cell.specs.Steps.{counting}
@@ -24,6 +26,14 @@ returns-clause-pass c =
     let held = c.seize.ensures.held c.if-not-seize.false in
     let narrowed = c.narrow-met.ensures (reading v held.0) (c.read.ensures v held.0 held.1).0 in
     (c.release.ensures (counting (reading v held.0) c.narrow-met.result narrowed.0) narrowed.1).0
+
+-- who meets with the turn is not busy
+pub returns-clause-others : goal.returns-clause-others
+returns-clause-others c = λ busy.
+    let v = pass_view c.args.pass.now in
+    let held = c.seize.ensures.held c.if-not-seize.false in
+    let narrowed = c.narrow-met.ensures (reading v held.0) (c.read.ensures v held.0 held.1).0 in
+    absurd (subst (λ (answer : CellMet). Judges answer held.0 v.number c.args.renewal.now c.args.uses.now narrowed.0) busy narrowed.2)
 
 pub returns-clause-judges : goal.returns-clause-judges
 returns-clause-judges c =

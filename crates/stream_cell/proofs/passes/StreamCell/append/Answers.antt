@@ -25,6 +25,7 @@ returns c = λ v history is.
       table = c.fetch_add.ensures.0 ∙ is.at.table;
       me = told.1;
       number = is.at.number;
+      passes = is.at.passes;
       ordered = is.ordered;
       of = told.0;
     } in

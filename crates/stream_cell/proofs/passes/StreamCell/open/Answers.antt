@@ -11,4 +11,4 @@ new-requires c = opens _ _ (one_slot c.args.opening.now c.in_ok-copied.field-0 c
 pub returns-clause-passes : goal.returns-clause-passes
 returns-clause-passes c =
     let shared = c.in-Ok.table.shared in
-    All-weaker (IsDealt shared.table_id shared.key.tube) (IsPassOf _) (dealt_pass _) c.in_ok-passes.passes.items c.in_ok-passes.ensures.passes
+    All-weaker (IsDealt shared.table_id shared.key) (IsPassOf _) (dealt_pass _) c.in_ok-passes.passes.items c.in_ok-passes.ensures.passes

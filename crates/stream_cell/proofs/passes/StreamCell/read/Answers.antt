@@ -29,6 +29,7 @@ returns c = λ v history at.
       table = c.load.ensures.0 ∙ at.table;
       me = told.3;
       number = at.number;
+      passes = at.passes;
       ordered = ordered;
       of = told.2;
     } in

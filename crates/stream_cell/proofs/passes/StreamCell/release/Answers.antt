@@ -25,6 +25,7 @@ returns c = λ v is. seated c.args.self.now _ (free v)
       table = c.swap.ensures.0 ∙ is.at.table;
       me = c.swap.ensures.2 v v.seen is.at.me;
       number = is.at.number;
+      passes = is.at.passes;
       ordered = is.at.ordered;
       of = of_turning v.seen v Free v.looks v.misses is.at.of;
     }) refl

@@ -1,4 +1,4 @@
-use Rattle.std.proofs.Common.{rules, ◌+◌, true≢false, eq-eqb, eqb-true, refl, sym, ◌∙◌, subst}
+use Rattle.std.proofs.Common.{rules, ◌+◌, ◌<◌, true≢false, eq-eqb, eqb-true, refl, sym, ◌∙◌, subst}
 use mathlib.Core.Option.{none}
 use Rattle.atomic_table.specs.Table.{Allows, step}
 use Rattle.stream_cell.specs.declared.view.Turn.TheVariants.{Free, Held}
@@ -21,16 +21,20 @@ swap-requires c =
     )
 
 pub returns-clause-busy : goal.returns-clause-busy
-returns-clause-busy c = λ busy. seated c.args.self.now _ (missed (pass_view c.args.pass.now))
+returns-clause-busy c = λ busy.
+    let told = (c.swap.ensures.2 (pass_view c.args.pass.now) c.requires.me).1 (λ e. true≢false (sym (eq-eqb c.swap.result 0 e) ∙ busy)) in
+    let now = seated c.args.self.now _ (missed (pass_view c.args.pass.now))
     (record {
       table = c.swap.ensures.0 ∙ c.requires.table;
-      me = (c.swap.ensures.2 (pass_view c.args.pass.now) c.requires.me).1 (λ e. true≢false (sym (eq-eqb c.swap.result 0 e) ∙ busy));
+      me = told.1;
       number = c.requires.number;
+      passes = c.requires.passes;
       ordered = c.requires.ordered;
       of =
           let v = pass_view c.args.pass.now in
           of_turning v.seen v Free v.looks (v.misses + 1) c.requires.of;
-    }) refl
+    }) refl in
+    (now.0, now.1, subst (λ n. 1 < n) c.requires.passes told.0)
 
 pub returns-clause-held : goal.returns-clause-held
 returns-clause-held c = λ held.
@@ -40,6 +44,7 @@ returns-clause-held c = λ held.
         table = c.swap.ensures.0 ∙ c.requires.table;
         me = told.1;
         number = c.requires.number;
+        passes = c.requires.passes;
         ordered = c.requires.ordered;
         of =
             let v = pass_view c.args.pass.now in
