@@ -32,8 +32,8 @@ made-more pass history version =
     ∙ map-append (λ (v : Version). v.number) (filter (λ (v : Version). nat_lt 0 v.number && nat_eq v.maker pass) history)
     (filter (λ (v : Version). nat_lt 0 v.number && nat_eq v.maker pass) (version ∷ []))
 
-made-own : (pass : ℕ) (version : Version) → 0 < version.number → version.maker ≡ pass → made_by pass (version ∷ []) ≡ version.number ∷ []
-made-own pass version some own =
+pub made_own : (pass : ℕ) (version : Version) → 0 < version.number → version.maker ≡ pass → made_by pass (version ∷ []) ≡ version.number ∷ []
+made_own pass version some own =
     ap (λ b. map (λ (v : Version). v.number) (cond b (version ∷ []) [])) (ap₂ (λ a b. a && b) (lt-ltb 0 version.number some) (eq-eqb version.maker pass own))
 
 and-no : (a : Bool) → a && false ≡ false
@@ -75,7 +75,7 @@ pub of_own : (history : History) (version : Version) (v : PassView) → IsOf his
     IsOf (history ++ version ∷ []) (appending v (history ++ version ∷ []))
 of_own history version v of own some =
     let made = made-more v.number history version
-    ∙ ap₂ (λ (a b : List ℕ). a ++ b) of.made (made-own v.number version some own ∙ ap (λ (one : Version). one.number ∷ []) (sym (newest_pushed history version))) in
+    ∙ ap₂ (λ (a b : List ℕ). a ++ b) of.made (made_own v.number version some own ∙ ap (λ (one : Version). one.number ∷ []) (sym (newest_pushed history version))) in
     record {
       begins = begins_itself (history ++ version ∷ []);
       some = omega (arith, length-append history (version ∷ []));

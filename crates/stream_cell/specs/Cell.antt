@@ -1,5 +1,5 @@
 -- The rule of a cell: between any two steps there is one history, and all that passes know is of it.
-use Rattle.std.specs.Prelude.{◌≡◌, ◌<◌, ◌≤◌, ◌∷◌, ℕ, zero, suc, [], Bool, true, false, List, count_by, length, nat_eq, nat_lt, slice_index, sum_by, if◌then◌else◌}
+use Rattle.std.specs.Prelude.{◌≡◌, ◌<◌, ◌≤◌, ◌∷◌, ℕ, zero, suc, [], Bool, true, false, Contains, List, count_by, length, nat_eq, nat_lt, slice_index, sum_by, if◌then◌else◌}
 use mathlib.Core.Option.{some}
 use Rattle.std.specs.List.{AllByRecursion}
 use Rattle.atomic_table.specs.Table.{State}
@@ -25,6 +25,10 @@ abbrev pub is_taken : Turn → Bool
 is_taken Free = false
 is_taken (Held history) = true
 is_taken Read = true
+
+-- one of the seats stands for this pass
+abbrev pub IsIn : List (List PassView) → PassView → Type 0
+IsIn views v = (seat : List PassView) × Contains views seat × Contains seat v
 
 -- how many passes the seats stand for
 abbrev pub passes_in : List (List PassView) → ℕ

@@ -21,6 +21,6 @@ mod view;
 pub use cell_like::CellLike;
 pub use head::{CellMet, Look, Uses};
 pub use history::History;
-pub use laws::{histories_begin_with_their_opening, last_versions_can_be_met};
+pub use laws::{histories_begin_with_their_opening, histories_only_grow, last_versions_can_be_met};
 pub use passes::{CellPass, StreamCell};
 pub use view::{CellTable, Opening, PassView, Turn};
