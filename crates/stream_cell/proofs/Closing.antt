@@ -17,7 +17,7 @@ use Rattle.stream_cell.specs.declared.view.Turn.TheVariants.{Free}
 use Rattle.stream_cell.specs.Cell.{IsAmid, IsCell, is_taken, times_in}
 use Rattle.stream_cell.specs.Passes.{IsOf}
 use Rattle.stream_cell.specs.Seats.{IsClosedBy, IsPassOf, opening_of, pass_view, passes_of}
-use Rattle.stream_cell.specs.Steps.{MyMe}
+use Rattle.stream_cell.specs.Kinds.{MyMe}
 use Rattle.stream_cell.proofs.Views.{sum_one, all_one, all_other}
 
 -- an empty list, by its length
@@ -91,7 +91,7 @@ module _ (about : Opening) (s : State History (List PassView)) (r : IsCell about
   closed-by : IsClosedBy about.tube vs r.history
   closed-by = record {
     ordered = r.of;
-    each = All-from_recursion (IsOf r.history) vs (all_other (IsAmid r.history) (IsOf r.history) vs (λ v is. is.of) (all_one _ s.views id vs at r.passes));
+    each = All-from_recursion (IsOf r.history) vs (all_other (IsAmid about.passes r.history) (IsOf r.history) vs (λ v is. is.of) (all_one _ s.views id vs at r.passes));
     makers = λ k some_k few.
         let maker = (numbered r.history k).maker in
         let counted = sum-alone (count_by (λ (v : PassView). nat_eq v.number maker)) refl s.views id vs at alone in

@@ -16,7 +16,7 @@ use Rattle.stream_cell.specs.Cell.{IsAmid, IsCell, turns_in, passes_from}
 use Rattle.stream_cell.specs.Dealing.{IsDealt}
 use Rattle.stream_cell.specs.Passes.{new_pass}
 use Rattle.stream_cell.specs.Seats.{pass_view, the_one}
-use Rattle.stream_cell.specs.Steps.{MyMe}
+use Rattle.stream_cell.specs.Kinds.{MyMe}
 use Rattle.stream_cell.proofs.Views.{sum_set, sum_push, count_append, all_one, all_set, all_append, all_push, all_take, all_drop}
 
 -- a number of a list of passes that is 0 for none, and for two lists together the sum
@@ -55,7 +55,7 @@ module _ (about : Opening) where
 
   -- the rule sees the seats by what they stand for together
   rearranged : (s : CellState) (r : IsCell about s) (views : List (List PassView)) → ((f : List PassView → ℕ) → IsSum f → sum_by f views ≡ sum_by f s.views) →
-      AllByRecursion (AllByRecursion (IsAmid r.history)) views → IsCell about record { words = s.words; homes = s.homes; views = views }
+      AllByRecursion (AllByRecursion (IsAmid about.passes r.history)) views → IsCell about record { words = s.words; homes = s.homes; views = views }
   rearranged s r views same each =
       let turns : turns_in views ≡ turns_in s.views = same _ (counts _) in
       record {
@@ -90,41 +90,41 @@ module _ (about : Opening) where
       (all_set _ (set s.views id (v ++ w)) other [] (all_set _ s.views id (v ++ w) r.passes (all_append _ v w mine theirs)) tt)
 
 -- the first of those that are left
-first_left : (opening : Tube) (n count : ℕ) → n < count → passes_from opening n (count - n) ≡ new_pass opening n ∷ passes_from opening (n + 1) (count - (n + 1))
-first_left opening n count h =
+first_left : (opening : Tube) (passes n count : ℕ) → n < count → passes_from opening passes n (count - n) ≡ new_pass opening passes n ∷ passes_from opening passes (n + 1) (count - (n + 1))
+first_left opening passes n count h =
     let more : count - n ≡ suc (count - (n + 1)) = omega arith in
     let next : suc n ≡ n + 1 = omega arith in
-    ap (passes_from opening n) more ∙ ap (λ k. new_pass opening n ∷ passes_from opening k (count - (n + 1))) next
+    ap (passes_from opening passes n) more ∙ ap (λ k. new_pass opening passes n ∷ passes_from opening passes k (count - (n + 1))) next
 
 -- a pass is cut off the seat that stands for those that are left
-module _ (opening : Tube) (n count : ℕ) (more : n < count) (me left : MyMe) (pass : CellPass) (is : me ≡ (passes_from opening n (count - n), []))
+module _ (about : Opening) (n count : ℕ) (more : n < count) (me left : MyMe) (pass : CellPass) (is : me ≡ (passes_from about.tube about.passes n (count - n), []))
     (mine : pass.seat.me ≡ (take 1 me.0, me.1)) (others : left ≡ (drop 1 me.0, [])) (number : pass.number ≡ n) where
-  split : me ≡ (new_pass opening n ∷ passes_from opening (n + 1) (count - (n + 1)), [])
-  split = is ∙ ap (λ (vs : List PassView). (vs, [])) (first_left opening n count more)
+  split : me ≡ (new_pass about.tube about.passes n ∷ passes_from about.tube about.passes (n + 1) (count - (n + 1)), [])
+  split = is ∙ ap (λ (vs : List PassView). (vs, [])) (first_left about.tube about.passes n count more)
 
-  alone : pass.seat.me ≡ (new_pass opening n ∷ [], [])
+  alone : pass.seat.me ≡ (new_pass about.tube about.passes n ∷ [], [])
   alone = mine ∙ ap (λ (one : MyMe). (take 1 one.0, one.1)) split
 
-  its_view : pass_view pass ≡ new_pass opening n
+  its_view : pass_view pass ≡ new_pass about.tube about.passes n
   its_view = ap (λ (one : MyMe). the_one one.0) alone
 
-  pub left_is : left ≡ (passes_from opening (n + 1) (count - (n + 1)), [])
+  pub left_is : left ≡ (passes_from about.tube about.passes (n + 1) (count - (n + 1)), [])
   left_is = others ∙ ap (λ (one : MyMe). (drop 1 one.0, [])) split
 
-  pub dealt_views : (items now : List CellPass) → map pass_view items ++ me.0 ≡ passes_from opening 0 count → now ≡ items ++ pass ∷ [] →
-      map pass_view now ++ left.0 ≡ passes_from opening 0 count
+  pub dealt_views : (items now : List CellPass) → map pass_view items ++ me.0 ≡ passes_from about.tube about.passes 0 count → now ≡ items ++ pass ∷ [] →
+      map pass_view now ++ left.0 ≡ passes_from about.tube about.passes 0 count
   dealt_views items now all pushed =
-      let both : me.0 ≡ pass_view pass ∷ left.0 = ap (λ (one : MyMe). one.0) split ∙ ap (λ (v : PassView). v ∷ passes_from opening (n + 1) (count - (n + 1))) (sym its_view) ∙ ap (λ (one : MyMe). pass_view pass ∷ one.0) (sym left_is) in
+      let both : me.0 ≡ pass_view pass ∷ left.0 = ap (λ (one : MyMe). one.0) split ∙ ap (λ (v : PassView). v ∷ passes_from about.tube about.passes (n + 1) (count - (n + 1))) (sym its_view) ∙ ap (λ (one : MyMe). pass_view pass ∷ one.0) (sym left_is) in
       ap (λ (all : List CellPass). map pass_view all ++ left.0) pushed
       ∙ ap (λ (vs : List PassView). vs ++ left.0) (map-append pass_view items (pass ∷ []))
       ∙ append_assoc (map pass_view items) (pass_view pass ∷ []) left.0
       ∙ ap (λ (vs : List PassView). map pass_view items ++ vs) (sym both)
       ∙ all
 
-  pub is_dealt : (name : TableId) → pass.seat.table_id ≡ name → IsDealt name opening pass
+  pub is_dealt : (name : TableId) → pass.seat.table_id ≡ name → IsDealt name about pass
   is_dealt name table = record {
     alone = record { table = table; me = alone ∙ ap (λ (v : PassView). (v ∷ [], [])) (sym its_view) };
-    fresh = its_view ∙ ap (new_pass opening) (sym number);
+    fresh = its_view ∙ ap (new_pass about.tube about.passes) (sym number);
   }
 
 -- a seat stands for the passes of another too

@@ -15,6 +15,7 @@ use Rattle.stream_cell.specs.declared.head.CellMet.{CellMet}
 use Rattle.stream_cell.specs.declared.head.CellMet.TheVariants as answer
 use Rattle.stream_cell.specs.declared.head.Uses.{Uses}
 use Rattle.stream_cell.proofs.Flats.{newest_pushed}
+use Rattle.stream_cell.proofs.Passing.{begins_itself, begins_more}
 
 -- the numbers that two bands have in common lie in both
 common-left : (A B : Interval) → IsInside (record { lo = int_max A.lo B.lo; hi = int_min A.hi B.hi }) A
@@ -76,11 +77,15 @@ opened_history opening = record {
     narrower = λ k l. absurd (omega arith);
     later = λ k l. absurd (omega arith);
   };
-  opens = refl;
+  opens = begins_itself (opened opening);
   few = omega arith;
   inside = λ k l. subst (λ i. IsWithin (numbered (opened opening) i).tube opening) (sym (first-alone k l)) (within-itself opening);
   stamps = omega arith;
 }
+
+-- its first version is the opening tube
+pub first_tube : (opening : Tube) (history : History) → IsHistoryOf opening history → (numbered history 0).tube ≡ opening
+first_tube opening history is = ap (λ (all : History). (numbered all 0).tube) is.opens.1
 
 -- one more version
 module _ (history : History) (version : Version) where
@@ -135,7 +140,7 @@ module _ (history : History) (version : Version) where
             narrower = each-next (λ next one. IsNarrower next.tube one.tube) is.ordered.narrower narrow;
             later = each-next (λ next one. one.stamp < next.stamp) is.ordered.later late;
           };
-          opens = ap (λ (one : Version). one.tube) (stays 0 there) ∙ is.opens;
+          opens = begins_more (opened opening) history version is.opens;
           few = omega arith;
           inside = each (λ k one. IsWithin one.tube opening) is.inside
               (within-through version.tube (newest history).tube opening narrow.within (is.inside (length history - 1) last));

@@ -4,6 +4,7 @@ pub mod Dealing
 pub mod Flats
 pub mod Growing
 pub mod Keeping
+pub mod Lasting
 pub mod Opened
 pub mod Passing
 pub mod Reading

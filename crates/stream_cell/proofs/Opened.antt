@@ -6,35 +6,35 @@ use Rattle.std.proofs.lemmas.List.Sums.{sum_by-cons}
 use mathlib.Core.Option.{some}
 use Rattle.atomic_table.specs.Table.{opening}
 use Rattle.relaxation.specs.Tube.{Tube}
-use Rattle.relaxation.specs.History.{History, numbered}
+use Rattle.relaxation.specs.History.{History}
 use Rattle.stream_cell.specs.declared.passes.CellPass.{CellPass}
 use Rattle.stream_cell.specs.declared.passes.StreamCell.{StreamCell}
 use Rattle.stream_cell.specs.declared.view.Opening.{Opening}
 use Rattle.stream_cell.specs.declared.view.PassView.{PassView}
 use Rattle.stream_cell.specs.Cell.{IsAmid, IsCell, is_taken, opening_passes, passes_from}
 use Rattle.stream_cell.specs.Dealing.{IsDealt}
-use Rattle.stream_cell.specs.Histories.{opened}
-use Rattle.stream_cell.specs.Passes.{new_pass}
-use Rattle.stream_cell.specs.Seats.{IsPassOf, opening_of}
+use Rattle.stream_cell.specs.Histories.{IsHistoryOf, opened}
+use Rattle.stream_cell.specs.Passes.{IsOf, new_pass}
+use Rattle.stream_cell.specs.Seats.{IsPassOf, opening_of, passes_of}
 use Rattle.stream_cell.proofs.Growing.{opened_history}
 
-module _ (tube : Tube) where
-  length-from : (first n : ℕ) → length (passes_from tube first n) ≡ n
+module _ (tube : Tube) (passes : ℕ) where
+  length-from : (first n : ℕ) → length (passes_from tube passes first n) ≡ n
   length-from first zero = refl
   length-from first (suc n) = ap suc (length-from (suc first) n)
 
-  free-from : (first n : ℕ) → count_by (λ (v : PassView). is_taken v.turn) (passes_from tube first n) ≡ 0
+  free-from : (first n : ℕ) → count_by (λ (v : PassView). is_taken v.turn) (passes_from tube passes first n) ≡ 0
   free-from first zero = refl
   free-from first (suc n) =
-      let more = sum_by-cons (λ (v : PassView). cond (is_taken v.turn) 1 0) (new_pass tube first) (passes_from tube (suc first) n) in
+      let more = sum_by-cons (λ (v : PassView). cond (is_taken v.turn) 1 0) (new_pass tube passes first) (passes_from tube passes (suc first) n) in
       let rest = free-from (suc first) n in
       omega arith
 
-  times-more : (k first n : ℕ) → count_by (λ (v : PassView). nat_eq v.number k) (passes_from tube first (suc n))
-      ≡ cond (nat_eq first k) 1 0 + count_by (λ (v : PassView). nat_eq v.number k) (passes_from tube (suc first) n)
-  times-more k first n = sum_by-cons (λ (v : PassView). cond (nat_eq v.number k) 1 0) (new_pass tube first) (passes_from tube (suc first) n)
+  times-more : (k first n : ℕ) → count_by (λ (v : PassView). nat_eq v.number k) (passes_from tube passes first (suc n))
+      ≡ cond (nat_eq first k) 1 0 + count_by (λ (v : PassView). nat_eq v.number k) (passes_from tube passes (suc first) n)
+  times-more k first n = sum_by-cons (λ (v : PassView). cond (nat_eq v.number k) 1 0) (new_pass tube passes first) (passes_from tube passes (suc first) n)
 
-  none-from : (k first n : ℕ) → (k < first) ⊎ (first + n ≤ k) → count_by (λ (v : PassView). nat_eq v.number k) (passes_from tube first n) ≡ 0
+  none-from : (k first n : ℕ) → (k < first) ⊎ (first + n ≤ k) → count_by (λ (v : PassView). nat_eq v.number k) (passes_from tube passes first n) ≡ 0
   none-from k first zero out = refl
   none-from k first (suc n) out =
       let rest = none-from k (suc first) n (⊎_elim (λ (l : k < first). inl (omega arith)) (λ (l : first + suc n ≤ k). inr (omega arith)) out) in
@@ -42,7 +42,7 @@ module _ (tube : Tube) where
       let more = times-more k first n in
       omega arith
 
-  one-from : (k first n : ℕ) → first ≤ k → k < first + n → count_by (λ (v : PassView). nat_eq v.number k) (passes_from tube first n) ≡ 1
+  one-from : (k first n : ℕ) → first ≤ k → k < first + n → count_by (λ (v : PassView). nat_eq v.number k) (passes_from tube passes first n) ≡ 1
   one-from k first zero low high = absurd (omega arith)
   one-from k first (suc n) low high = let more = times-more k first n in elim (cases_lt first k) [
     | inl l ↦
@@ -56,20 +56,24 @@ module _ (tube : Tube) where
   ]
 
   -- each number below that of the passes is that of one of them
-  once-from : (k n : ℕ) → count_by (λ (v : PassView). nat_eq v.number k) (passes_from tube 0 n) ≡ (if nat_lt k n then 1 else 0)
+  once-from : (k n : ℕ) → count_by (λ (v : PassView). nat_eq v.number k) (passes_from tube passes 0 n) ≡ (if nat_lt k n then 1 else 0)
   once-from k n = elim (cases_lt k n) [
     | inl l ↦ one-from k 0 n (omega arith) (omega arith) ∙ ap (λ b. if b then 1 else 0) (sym (lt-ltb k n l))
     | inr l ↦ none-from k 0 n (inr (omega arith)) ∙ ap (λ b. if b then 1 else 0) (sym (le-ltb k n l))
   ]
 
-  new-amid : (number : ℕ) → IsAmid (opened tube) (new_pass tube number)
+  new-of : (number : ℕ) → IsOf (opened tube) (new_pass tube passes number)
+  new-of number = record { begins = ([], refl); some = omega arith; made = refl; knows = refl }
+
+  new-amid : (number : ℕ) → IsAmid passes (opened tube) (new_pass tube passes number)
   new-amid number = record {
-    of = record { begins = ([], refl); some = omega arith; made = refl; knows = refl };
+    of = new-of number;
+    among = refl;
     holds = λ held e. cc;
     reads = λ e. cc;
   }
 
-  all-amid : (first n : ℕ) → AllByRecursion (IsAmid (opened tube)) (passes_from tube first n)
+  all-amid : (first n : ℕ) → AllByRecursion (IsAmid passes (opened tube)) (passes_from tube passes first n)
   all-amid first zero = tt
   all-amid first (suc n) = (new-amid first, all-amid (suc first) n)
 
@@ -82,13 +86,13 @@ opens about slots is = record {
   history = opened about.tube;
   of = opened_history about.tube;
   words = refl;
-  turns = sym (one-seat (count_by (λ (v : PassView). is_taken v.turn)) (opening_passes about) ∙ free-from about.tube 0 about.passes);
-  few = omega (arith, one-seat (count_by (λ (v : PassView). is_taken v.turn)) (opening_passes about) ∙ free-from about.tube 0 about.passes);
+  turns = sym (one-seat (count_by (λ (v : PassView). is_taken v.turn)) (opening_passes about) ∙ free-from about.tube about.passes 0 about.passes);
+  few = omega (arith, one-seat (count_by (λ (v : PassView). is_taken v.turn)) (opening_passes about) ∙ free-from about.tube about.passes 0 about.passes);
   home = λ none. ap (map some) is;
   counted = refl;
-  passes = (all-amid about.tube 0 about.passes, tt);
-  all = one-seat length (opening_passes about) ∙ length-from about.tube 0 about.passes;
-  once = λ k. one-seat (count_by (λ (v : PassView). nat_eq v.number k)) (opening_passes about) ∙ once-from about.tube k about.passes;
+  passes = (all-amid about.tube about.passes 0 about.passes, tt);
+  all = one-seat length (opening_passes about) ∙ length-from about.tube about.passes 0 about.passes;
+  once = λ k. one-seat (count_by (λ (v : PassView). nat_eq v.number k)) (opening_passes about) ∙ once-from about.tube about.passes k about.passes;
   makers = λ k some few. absurd (omega arith);
 }
 
@@ -98,12 +102,13 @@ pub one_slot : (given tube : Tube) (history : History) (none slots : List Histor
 one_slot given tube history none slots t h n s = rw (s, n, h, t) refl
 
 -- what was dealt is a pass of the cell
-pub dealt_pass : (cell : StreamCell) (pass : CellPass) → IsDealt cell.table.shared.table_id (opening_of cell) pass → IsPassOf cell pass
+pub dealt_pass : (cell : StreamCell) (pass : CellPass) → IsDealt cell.table.shared.table_id cell.table.shared.key pass → IsPassOf cell pass
 dealt_pass cell pass dealt = record {
   table = dealt.alone.table;
   me = dealt.alone.me;
   number = ap (λ (v : PassView). v.number) (sym dealt.fresh);
+  passes = ap (λ (v : PassView). v.passes) dealt.fresh;
   free = ap (λ (v : PassView). v.turn) dealt.fresh;
-  some = subst (λ (v : PassView). 0 < length v.seen) (sym dealt.fresh) (omega arith);
-  opens = ap (λ (v : PassView). (numbered v.seen 0).tube) dealt.fresh;
+  ordered = subst (λ (v : PassView). IsHistoryOf (opening_of cell) v.seen) (sym dealt.fresh) (opened_history (opening_of cell));
+  of = subst (λ (v : PassView). IsOf v.seen v) (sym dealt.fresh) (new-of (opening_of cell) (passes_of cell) pass.number);
 }

@@ -4,15 +4,16 @@ use Rattle.std.proofs.lemmas.List.{get_or_append_left, map-append}
 use Rattle.std.proofs.lemmas.List.Elements.{filter-append}
 use Rattle.relaxation.specs.History.{Version, History, Begins, no_version, numbered}
 use Rattle.stream_cell.specs.declared.view.PassView.{PassView}
+use Rattle.stream_cell.specs.declared.view.Turn.{Turn}
 use Rattle.stream_cell.specs.Passes.{IsOf, made_by}
-use Rattle.stream_cell.specs.Steps.{reading, appending}
+use Rattle.stream_cell.specs.Kinds.{reading, appending}
 use Rattle.stream_cell.proofs.Flats.{newest_pushed}
 
 pub begins_itself : (history : History) → Begins history history
 begins_itself history = ([], sym (append-nil history))
 
-begins-more : (seen history : History) (version : Version) → Begins seen history → Begins seen (history ++ version ∷ [])
-begins-more seen history version begins =
+pub begins_more : (seen history : History) (version : Version) → Begins seen history → Begins seen (history ++ version ∷ [])
+begins_more seen history version begins =
     (begins.0 ++ version ∷ [], ap (λ (all : History). all ++ version ∷ []) begins.1 ∙ append_assoc seen begins.0 (version ∷ []))
 
 -- what begins a history has its first version
@@ -31,8 +32,8 @@ made-more pass history version =
     ∙ map-append (λ (v : Version). v.number) (filter (λ (v : Version). nat_lt 0 v.number && nat_eq v.maker pass) history)
     (filter (λ (v : Version). nat_lt 0 v.number && nat_eq v.maker pass) (version ∷ []))
 
-made-own : (pass : ℕ) (version : Version) → 0 < version.number → version.maker ≡ pass → made_by pass (version ∷ []) ≡ version.number ∷ []
-made-own pass version some own =
+pub made_own : (pass : ℕ) (version : Version) → 0 < version.number → version.maker ≡ pass → made_by pass (version ∷ []) ≡ version.number ∷ []
+made_own pass version some own =
     ap (λ b. map (λ (v : Version). v.number) (cond b (version ∷ []) [])) (ap₂ (λ a b. a && b) (lt-ltb 0 version.number some) (eq-eqb version.maker pass own))
 
 and-no : (a : Bool) → a && false ≡ false
@@ -47,13 +48,18 @@ made-else pass version else =
 -- who did not make it is of the longer history too
 pub of_more : (history : History) (version : Version) (v : PassView) → version.maker ≢ v.number → IsOf history v → IsOf (history ++ version ∷ []) v
 of_more history version v else of = record {
-  begins = begins-more v.seen history version of.begins;
+  begins = begins_more v.seen history version of.begins;
   some = of.some;
   made = made-more v.number history version
       ∙ (ap (λ numbers. made_by v.number history ++ numbers) (made-else v.number version else)
       ∙ (append-nil (made_by v.number history) ∙ of.made));
   knows = of.knows;
 }
+
+-- what a pass counts of its steps, and whether it has the turn, changes nothing of it
+pub of_turning : (history : History) (v : PassView) (turn : Turn) (looks misses : ℕ) → IsOf history v →
+    IsOf history (record { number = v.number; passes = v.passes; seen = v.seen; made = v.made; turn = turn; looks = looks; misses = misses })
+of_turning history v turn looks misses of = record { begins = of.begins; some = of.some; made = of.made; knows = of.knows }
 
 -- who read the whole is of it
 pub of_whole : (history : History) (v : PassView) → IsOf history v → IsOf history (reading v history)
@@ -69,7 +75,7 @@ pub of_own : (history : History) (version : Version) (v : PassView) → IsOf his
     IsOf (history ++ version ∷ []) (appending v (history ++ version ∷ []))
 of_own history version v of own some =
     let made = made-more v.number history version
-    ∙ ap₂ (λ (a b : List ℕ). a ++ b) of.made (made-own v.number version some own ∙ ap (λ (one : Version). one.number ∷ []) (sym (newest_pushed history version))) in
+    ∙ ap₂ (λ (a b : List ℕ). a ++ b) of.made (made_own v.number version some own ∙ ap (λ (one : Version). one.number ∷ []) (sym (newest_pushed history version))) in
     record {
       begins = begins_itself (history ++ version ∷ []);
       some = omega (arith, length-append history (version ∷ []));

@@ -1,13 +1,16 @@
 -- What a seat that stands for one pass alone lends it, and that it is a pass of its cell.
-use Rattle.std.proofs.Common.{◌≡◌, ℕ, ◌<◌, List, [], ◌∷◌, length, sym, ap, ◌∙◌, subst}
+use Rattle.std.proofs.Common.{◌≡◌, ℕ, List, [], ◌∷◌, sym, ap, ◌∙◌, subst}
 use Rattle.atomic_table.specs.Table.{rest}
-use Rattle.relaxation.specs.History.{History, numbered}
+use Rattle.relaxation.specs.History.{History}
 use Rattle.stream_cell.specs.declared.view.PassView.{PassView}
 use Rattle.stream_cell.specs.declared.view.Turn.TheVariants.{Free}
 use Rattle.stream_cell.specs.declared.passes.StreamCell.{StreamCell}
 use Rattle.stream_cell.specs.declared.passes.CellPass.{CellPass}
-use Rattle.stream_cell.specs.Seats.{IsPassOf, pass_view, the_one}
-use Rattle.stream_cell.specs.Steps.{IsAt, MyMe}
+use Rattle.stream_cell.specs.Histories.{IsHistoryOf}
+use Rattle.stream_cell.specs.Passes.{IsOf}
+use Rattle.stream_cell.specs.Seats.{IsPassOf, opening_of, pass_view, the_one}
+use Rattle.stream_cell.specs.Kinds.{MyMe}
+use Rattle.stream_cell.specs.Steps.{IsAt}
 
 pub seated : (cell : StreamCell) (pass : CellPass) (v : PassView) → IsAt cell pass v [] → v.turn ≡ Free → IsPassOf cell pass × (pass_view pass ≡ v)
 seated cell pass v at turn =
@@ -16,9 +19,10 @@ seated cell pass v at turn =
         table = at.table;
         me = at.me ∙ ap (λ (u : PassView). (u ∷ [], [])) (sym same);
         number = at.number ∙ ap (λ (u : PassView). u.number) (sym same);
+        passes = ap (λ (u : PassView). u.passes) same ∙ at.passes;
         free = ap (λ (u : PassView). u.turn) same ∙ turn;
-        some = subst (λ (u : PassView). 0 < length u.seen) (sym same) at.some;
-        opens = ap (λ (u : PassView). (numbered u.seen 0).tube) same ∙ at.opens;
+        ordered = subst (λ (u : PassView). IsHistoryOf (opening_of cell) u.seen) (sym same) at.ordered;
+        of = subst (λ (u : PassView). IsOf u.seen u) (sym same) at.of;
       },
       same,
     )

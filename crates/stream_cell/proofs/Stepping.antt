@@ -18,10 +18,11 @@ use Rattle.stream_cell.specs.Cell.{IsAmid, IsCell, is_taken, passes_in, turns_in
 use Rattle.stream_cell.specs.Histories.{IsHistoryOf}
 use Rattle.stream_cell.specs.Passes.{IsOf, missed}
 use Rattle.stream_cell.specs.Seats.{the_one}
-use Rattle.stream_cell.specs.Steps.{MyMe, with_history, holding, reading, appending, free, seized, read, appended, released}
-use Rattle.stream_cell.proofs.Passing.{first_stays, of_more, of_whole, of_own}
+use Rattle.stream_cell.specs.Kinds.{MyMe, with_history, holding, reading, appending, free, seized, read, appended, released}
+use Rattle.stream_cell.proofs.Growing.{first_tube}
+use Rattle.stream_cell.proofs.Passing.{first_stays, of_more, of_turning, of_whole, of_own}
 use Rattle.stream_cell.proofs.Seating.{first_out}
-use Rattle.stream_cell.proofs.Views.{sum_set, sum_one, sum_two, all_one, all_set, all_both, all_exchanged, count_one, count_yes, count_none}
+use Rattle.stream_cell.proofs.Views.{sum_set, sum_below, sum_one, sum_two, all_one, all_set, all_both, all_exchanged, count_most, count_one, count_yes, count_none}
 
 -- what a turn is
 abbrev is-held : Turn → Bool
@@ -36,28 +37,30 @@ held-in Read = []
 
 -- the same pass, with another turn
 abbrev turning : PassView → Turn → ℕ → ℕ → PassView
-turning v turn looks misses = record { number = v.number; seen = v.seen; made = v.made; turn = turn; looks = looks; misses = misses }
+turning v turn looks misses = record { number = v.number; passes = v.passes; seen = v.seen; made = v.made; turn = turn; looks = looks; misses = misses }
 
-of-turning : (history : History) (v : PassView) (turn : Turn) (looks misses : ℕ) → IsOf history v → IsOf history (turning v turn looks misses)
-of-turning history v turn looks misses of = record { begins = of.begins; some = of.some; made = of.made; knows = of.knows }
-
-free-amid : (history : History) (v : PassView) (looks misses : ℕ) → IsOf history v → IsAmid history (turning v Free looks misses)
-free-amid history v looks misses of = record {
-  of = of-turning history v Free looks misses of;
+free-amid : (passes : ℕ) (history : History) (v : PassView) (looks misses : ℕ) → v.passes ≡ passes → IsOf history v →
+    IsAmid passes history (turning v Free looks misses)
+free-amid passes history v looks misses among of = record {
+  of = of_turning history v Free looks misses of;
+  among = among;
   holds = λ held e. absurd (true≢false (sym (ap is_taken e)));
   reads = λ e. absurd (true≢false (sym (ap is_taken e)));
 }
 
-held-amid : (history : History) (v : PassView) (looks misses : ℕ) → IsOf history v → IsAmid history (turning v (Held history) looks misses)
-held-amid history v looks misses of = record {
-  of = of-turning history v (Held history) looks misses of;
+held-amid : (passes : ℕ) (history : History) (v : PassView) (looks misses : ℕ) → v.passes ≡ passes → IsOf history v →
+    IsAmid passes history (turning v (Held history) looks misses)
+held-amid passes history v looks misses among of = record {
+  of = of_turning history v (Held history) looks misses of;
+  among = among;
   holds = λ held e. ap held-in (sym e);
   reads = λ e. absurd (true≢false (ap is-held e));
 }
 
-read-amid : (history : History) (v : PassView) → IsOf history v → v.turn ≡ Read → v.seen ≡ history → IsAmid history v
-read-amid history v of turn seen = record {
+read-amid : (passes : ℕ) (history : History) (v : PassView) → v.passes ≡ passes → IsOf history v → v.turn ≡ Read → v.seen ≡ history → IsAmid passes history v
+read-amid passes history v among of turn seen = record {
   of = of;
+  among = among;
   holds = λ held e. absurd (true≢false (sym (ap is-held (sym turn ∙ e))));
   reads = λ e. seen;
 }
@@ -65,6 +68,10 @@ read-amid history v of turn seen = record {
 -- how many turns a seat of one pass has
 turn-of : (v : PassView) (t : Turn) → v.turn ≡ t → count_by (λ (u : PassView). is_taken u.turn) (v ∷ []) ≡ cond (is_taken t) 1 0
 turn-of v t e = count_one (λ (u : PassView). is_taken u.turn) v ∙ ap (λ x. cond (is_taken x) 1 0) e
+
+-- no more turns than passes
+turns-below : (views : List (List PassView)) → turns_in views ≤ passes_in views
+turns-below views = sum_below (count_by (λ (u : PassView). is_taken u.turn)) length (count_most (λ (u : PassView). is_taken u.turn)) views
 
 -- how often its number is this one
 number-of : (v : PassView) (i k : ℕ) → v.number ≡ i → count_by (λ (u : PassView). nat_eq u.number k) (v ∷ []) ≡ cond (nat_eq i k) 1 0
@@ -105,13 +112,24 @@ module _ (about : Opening) where
 
   -- a pass at a seat of its own
   module _ (s : S) (r : IsCell about s) (id : ℕ) (v : PassView) (at : get_elem? s.views id ≡ some (v ∷ [])) where
-    amid : IsAmid r.history v
-    amid = (all_one (AllByRecursion (IsAmid r.history)) s.views id (v ∷ []) at r.passes).0
+    amid : IsAmid about.passes r.history v
+    amid = (all_one (AllByRecursion (IsAmid about.passes r.history)) s.views id (v ∷ []) at r.passes).0
 
     has-turn : (t : Turn) → v.turn ≡ t → is_taken t ≡ true → 1 ≤ turns_in s.views
     has-turn t e is =
         let own = sum_one (count_by (λ (u : PassView). is_taken u.turn)) s.views id (v ∷ []) at in
         let one = count_yes (λ (u : PassView). is_taken u.turn) v (ap is_taken e ∙ is) in
+        omega arith
+
+    -- where one has the turn and this one has not, there are two
+    not-alone : v.turn ≡ Free → 1 ≤ turns_in s.views → 1 < v.passes
+    not-alone turn taken =
+        let turns = sum_set (count_by (λ (u : PassView). is_taken u.turn)) s.views id (v ∷ []) [] at in
+        let mine = turn-of v Free turn in
+        let most = turns-below (set s.views id []) in
+        let sums = sum_set length s.views id (v ∷ []) [] at in
+        let all = r.all in
+        let among = amid.among in
         omega arith
 
     -- another view of the same pass
@@ -134,7 +152,7 @@ module _ (about : Opening) where
           omega arith
 
       -- of the same history
-      kept : (words : List ℕ) (homes : Homes) → IsAmid r.history w → length words ≡ 2 →
+      kept : (words : List ℕ) (homes : Homes) → IsAmid about.passes r.history w → length words ≡ 2 →
           slice_index words 0 ≡ turns_in (set s.views id (w ∷ [])) → turns_in (set s.views id (w ∷ [])) ≤ 1 →
           (turns_in (set s.views id (w ∷ [])) ≡ 0 → homes ≡ some r.history ∷ []) → slice_index words 1 ≡ length r.history →
           IsCell about (record { words = words; homes = homes; views = set s.views id (w ∷ []) })
@@ -146,7 +164,7 @@ module _ (about : Opening) where
         few = few;
         home = home;
         counted = counted;
-        passes = all_set (AllByRecursion (IsAmid r.history)) s.views id (w ∷ []) r.passes (is, tt);
+        passes = all_set (AllByRecursion (IsAmid about.passes r.history)) s.views id (w ∷ []) r.passes (is, tt);
         all = all-stay;
         once = λ k. times-stay k ∙ r.once k;
         makers = r.makers;
@@ -174,7 +192,7 @@ module _ (about : Opening) where
       let now = turn-now s.words 1 two in
       let turns = turns-change s r id v at (holding v r.history) refl Free (Held r.history) turn refl in
       kept s r id v at (holding v r.history) refl (set s.words 0 1) (set s.homes 0 none)
-      (held-amid r.history v v.looks v.misses (amid s r id v at).of)
+      (held-amid about.passes r.history v v.looks v.misses (amid s r id v at).among (amid s r id v at).of)
       (length-set s.words 0 1 ∙ two)
       (omega arith)
       (omega arith)
@@ -191,7 +209,7 @@ module _ (about : Opening) where
       let now = turn-now s.words 1 two in
       let turns = turns-change s r id v at (missed v) refl Free Free turn refl in
       kept s r id v at (missed v) refl (set s.words 0 1) s.homes
-      (free-amid r.history v v.looks (v.misses + 1) (amid s r id v at).of)
+      (free-amid about.passes r.history v v.looks (v.misses + 1) (amid s r id v at).among (amid s r id v at).of)
       (length-set s.words 0 1 ∙ two)
       (omega arith)
       (omega arith)
@@ -216,13 +234,19 @@ module _ (about : Opening) where
         keeps,
         tt,
         finds-taken s r id v at turn ne,
-        λ u e. ((λ home. absurd (ne home)), λ _. ap (λ (w : PassView). (missed w ∷ [], [])) (the-same v u [] [] e)),
+        λ u e. (
+          (λ home. absurd (ne home)),
+          λ _. (
+            subst (λ (w : PassView). 1 < w.passes) (the-same v u [] [] e) (not-alone s r id v at turn (let word = r.turns in omega arith)),
+            ap (λ (w : PassView). (missed w ∷ [], [])) (the-same v u [] [] e),
+          ),
+        ),
       ))
 
   -- who has the history reads how many versions there are
   begins-there : (history : History) (v : PassView) → IsHistoryOf about.tube history → IsOf history v → IsHistoryOf (numbered v.seen 0).tube history
   begins-there history v is of =
-      subst (λ tube. IsHistoryOf tube history) (sym (ap (λ (one : Version). one.tube) (first_stays v.seen history of.begins of.some) ∙ is.opens)) is
+      subst (λ tube. IsHistoryOf tube history) (sym (ap (λ (one : Version). one.tube) (first_stays v.seen history of.begins of.some) ∙ first_tube about.tube history is)) is
 
   reads-all : (s : S) (r : IsCell about s) (id : ℕ) (v : PassView) → get_elem? s.views id ≡ some (v ∷ []) → v.turn ≡ Held r.history →
       IsCell about (record { words = set s.words 1 (slice_index s.words 1); homes = s.homes; views = set s.views id (reading v r.history ∷ []) })
@@ -234,7 +258,7 @@ module _ (about : Opening) where
       let turns = turns-change s r id v at (reading v r.history) refl (Held r.history) Read held refl in
       let has = has-turn s r id v at (Held r.history) held refl in
       kept s r id v at (reading v r.history) refl (set s.words 1 (slice_index s.words 1)) s.homes
-      (read-amid r.history (reading v r.history) (of_whole r.history v (amid s r id v at).of) refl refl)
+      (read-amid about.passes r.history (reading v r.history) (amid s r id v at).among (of_whole r.history v (amid s r id v at).of) refl refl)
       (length-set s.words 1 (slice_index s.words 1) ∙ two)
       (omega arith)
       (omega arith)
@@ -293,16 +317,17 @@ module _ (about : Opening) where
           let all = times-own in
           count_none (λ (u : PassView). nat_eq u.number v.number) others (omega arith)
 
-      still : (u : PassView) → IsAmid r.history u → (is_taken u.turn ≡ false) × (nat_eq u.number v.number ≡ false) → IsAmid longer u
+      still : (u : PassView) → IsAmid about.passes r.history u → (is_taken u.turn ≡ false) × (nat_eq u.number v.number ≡ false) → IsAmid about.passes longer u
       still u was out = record {
         of = of_more r.history version u (λ e. true≢false (sym (eq-eqb u.number v.number (sym e ∙ own)) ∙ out.1)) was.of;
+        among = was.among;
         holds = λ held e. absurd (true≢false (sym (ap is_taken e) ∙ out.0));
         reads = λ e. absurd (true≢false (sym (ap is_taken e) ∙ out.0));
       }
 
-      all-still : AllByRecursion (IsAmid longer) others
-      all-still = all_both (IsAmid r.history) (λ (u : PassView). (is_taken u.turn ≡ false) × (nat_eq u.number v.number ≡ false)) (IsAmid longer) others still
-          (all_one (AllByRecursion (IsAmid r.history)) s.views j others there r.passes)
+      all-still : AllByRecursion (IsAmid about.passes longer) others
+      all-still = all_both (IsAmid about.passes r.history) (λ (u : PassView). (is_taken u.turn ≡ false) × (nat_eq u.number v.number ≡ false)) (IsAmid about.passes longer) others still
+          (all_one (AllByRecursion (IsAmid about.passes r.history)) s.views j others there r.passes)
           (all_both (λ (u : PassView). is_taken u.turn ≡ false) (λ (u : PassView). nat_eq u.number v.number ≡ false)
           (λ (u : PassView). (is_taken u.turn ≡ false) × (nat_eq u.number v.number ≡ false)) others (λ u a b. (a, b)) no-turn no-number)
 
@@ -344,7 +369,7 @@ module _ (about : Opening) where
           few = omega arith;
           home = λ e. absurd (omega arith);
           counted = omega arith;
-          passes = all_exchanged (AllByRecursion (IsAmid longer)) s.views id (appending v longer ∷ []) all-still (read-amid longer (appending v longer) of-longer refl refl, tt);
+          passes = all_exchanged (AllByRecursion (IsAmid about.passes longer)) s.views id (appending v longer ∷ []) all-still (read-amid about.passes longer (appending v longer) (amid s r id v at).among of-longer refl refl, tt);
           all = all-stay s r id v at (appending v longer) refl;
           once = λ k. times-stay s r id v at (appending v longer) refl k ∙ r.once k;
           makers = made-below;
@@ -377,7 +402,7 @@ module _ (about : Opening) where
       let now = turn-now s.words 0 two in
       let turns = turns-change s r id v at (free v) refl Read Free turn refl in
       kept s r id v at (free v) refl (set s.words 0 0) (set s.homes 0 (some v.seen))
-      (free-amid r.history v v.looks v.misses before.of)
+      (free-amid about.passes r.history v v.looks v.misses before.among before.of)
       (length-set s.words 0 0 ∙ two)
       (omega arith)
       (omega arith)

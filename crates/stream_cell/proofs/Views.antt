@@ -1,5 +1,5 @@
 -- Seats' views as lists of lists: sums over them, and what each of their passes is.
-use Rattle.std.proofs.Common.{◌≡◌, ◌≢◌, ℕ, zero, suc, ◌+◌, ◌≤◌, Bool, true, false, cond, List, [], ◌∷◌, ◌++◌, set, take, drop, sum_by, count_by, ⊎_elim, refl, sym, ap, ◌∙◌, subst, arith}
+use Rattle.std.proofs.Common.{◌≡◌, ◌≢◌, ℕ, zero, suc, ◌+◌, ◌≤◌, Bool, true, false, cond, List, [], ◌∷◌, ◌++◌, length, set, take, drop, sum_by, count_by, ⊎_elim, refl, sym, ap, ◌∙◌, subst, arith}
 use Rattle.std.specs.List.{AllByRecursion}
 use Rattle.std.proofs.lemmas.List.Sums.{sum_by-cons, sum_by-append, sum_by_push, sum_by-take-drop}
 use mathlib.Core.Option.{some, some-injective, some-ne-none}
@@ -61,6 +61,20 @@ module _ {A : Type 0} (f : A → ℕ) where
   pub sum_cut : (n : ℕ) (l : List A) → sum_by f (take n l) + sum_by f (drop n l) ≡ sum_by f l
   sum_cut n l = sum_by-take-drop f l n
 
+-- what is below another at each seat is so in all
+pub sum_below : {A : Type 0} (f g : A → ℕ) → ((v : A) → f v ≤ g v) → (l : List A) → sum_by f l ≤ sum_by g l
+sum_below f g each [] = omega arith
+sum_below f g each (u ∷ us) =
+    let first = each u in
+    let rest = sum_below f g each us in
+    let low = sum_by-cons f u us in
+    let high = sum_by-cons g u us in
+    omega arith
+
+one-most : (b : Bool) → ◌≤◌ (cond b 1 0) 1
+one-most true = omega arith
+one-most false = omega arith
+
 unpassed : (b : Bool) → ◌≡◌ {A = ℕ} (cond b 1 0) 0 → b ≡ false
 unpassed true e = absurd (omega arith)
 unpassed false e = refl
@@ -75,6 +89,14 @@ module _ {A : Type 0} (p : A → Bool) where
 
   pub count_one : (v : A) → count_by p (v ∷ []) ≡ cond (p v) 1 0
   count_one v = sum_by-cons (λ x. cond (p x) 1 0) v [] ∙ omega arith
+
+  pub count_most : (l : List A) → count_by p l ≤ length l
+  count_most [] = omega arith
+  count_most (u ∷ us) =
+      let first = one-most (p u) in
+      let rest = count_most us in
+      let all = sum_by-cons (λ x. cond (p x) 1 0) u us in
+      omega arith
 
   pub count_yes : (v : A) → p v ≡ true → count_by p (v ∷ []) ≡ 1
   count_yes v e = count_one v ∙ ap (λ b. cond b 1 0) e

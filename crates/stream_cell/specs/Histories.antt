@@ -1,7 +1,7 @@
 -- The versions of a stream, and what meeting the last of them with a renewal makes of them.
 use Rattle.std.specs.Prelude.{◌≡◌, ℕ, ◌+◌, ◌-◌, ◌<◌, ◌≤◌, ◌^◌, max, true, false, [], ◌∷◌, ◌++◌, length}
 use Rattle.relaxation.specs.Tube.{Tube, IsWithin, HasNumbers, is_within, meet}
-use Rattle.relaxation.specs.History.{Version, History, IsHistory, numbered}
+use Rattle.relaxation.specs.History.{Version, History, Begins, IsHistory, numbered}
 use Rattle.tubes.specs.Meeting.{IsFirstEmpty}
 use Rattle.stream_cell.specs.declared.head.CellMet.{CellMet}
 use Rattle.stream_cell.specs.declared.head.CellMet.TheVariants as answer
@@ -15,10 +15,11 @@ newest history = numbered history (length history - 1)
 abbrev pub opened : Tube → History
 opened tube = record { number = 0; maker = 0; stamp = 0; refs = []; tube = tube } ∷ []
 
--- A history that begins with this tube: at most 33 versions, all of them inside it, with stamps that leave room for more.
+-- A history that begins with this tube as version 0, which nobody made: at most 33 versions, all of them inside it, with stamps that
+-- leave room for more.
 pub record IsHistoryOf (opening : Tube) (history : History) : Type 0 where
   pub ordered : IsHistory history
-  pub opens : (numbered history 0).tube ≡ opening
+  pub opens : Begins (opened opening) history
   pub few : length history ≤ 33
   pub inside : (k : ℕ) → k < length history → IsWithin (numbered history k).tube opening
   pub stamps : (newest history).stamp < 2 ^ 62 + length history

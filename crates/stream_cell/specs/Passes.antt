@@ -23,20 +23,27 @@ pub record IsOf (history : History) (pass : PassView) : Type 0 where
   pub made : made_by pass.number history ≡ pass.made
   pub knows : made_by pass.number pass.seen ≡ pass.made
 
--- a pass that has seen version 0 alone
-abbrev pub new_pass : Tube → ℕ → PassView
-new_pass opening number =
-    record { number = number; seen = opened opening; made = []; turn = Free; looks = 0; misses = 0 }
+-- a pass of so many that has seen version 0 alone
+abbrev pub new_pass : Tube → ℕ → ℕ → PassView
+new_pass opening passes number =
+    record { number = number; passes = passes; seen = opened opening; made = []; turn = Free; looks = 0; misses = 0 }
 
 -- the same pass, once it found the turn taken
 abbrev pub missed : PassView → PassView
 missed v =
-    record { number = v.number; seen = v.seen; made = v.made; turn = Free; looks = v.looks; misses = v.misses + 1 }
+    record { number = v.number; passes = v.passes; seen = v.seen; made = v.made; turn = Free; looks = v.looks; misses = v.misses + 1 }
 
 -- the same pass, once it read a history, which it has seen with what it made of it, and the turn is free again
 abbrev pub looked : PassView → History → List ℕ → PassView
-looked v history made =
-    record { number = v.number; seen = history; made = v.made ++ made; turn = Free; looks = v.looks + 1; misses = v.misses }
+looked v history made = record {
+  number = v.number;
+  passes = v.passes;
+  seen = history;
+  made = v.made ++ made;
+  turn = Free;
+  looks = v.looks + 1;
+  misses = v.misses;
+}
 
 -- What a look answers: busy, where it found the turn taken; or the last version of the history as it is, which begins with all that
 -- the pass has seen.
@@ -66,9 +73,9 @@ abbrev pub Meets : Tube → CellMet → PassView → Tube → Uses → PassView 
 Meets opening answer old renewal uses new =
     ((answer ≡ met.Busy) × (new ≡ missed old)) ⊎ JudgesNow opening answer old renewal uses new
 
--- its number, and what it has seen and made, stay
+-- its number, and what it has seen and made, stay, and it does not have the turn
 abbrev pub Stays : PassView → PassView → Type 0
-Stays old new = (new.number ≡ old.number) × (new.seen ≡ old.seen) × (new.made ≡ old.made)
+Stays old new = (new.number ≡ old.number) × (new.seen ≡ old.seen) × (new.made ≡ old.made) × (new.turn ≡ Free)
 
 -- the same answers, where it is not said why one is busy
 abbrev pub LooksOrStays : Tube → Look → Tube → PassView → Tube → PassView → Type 0

@@ -2,6 +2,8 @@
 
 ghost use Rattle.std.specs.Prelude.{◌≡◌, ◌<◌, ◌≤◌, ◌^◌, ◌++◌, [], All, IfOk, length, map};
 ghost use Rattle.tubes.specs.Shape.{HasShapeOf};
+ghost use Rattle.stream_cell.specs.declared.head.CellMet.TheVariants as met;
+ghost use Rattle.stream_cell.specs.declared.head.Look.TheVariants as shown;
 ghost use Rattle.stream_cell.specs.Cell.{passes_from};
 ghost use Rattle.stream_cell.specs.Dealing.{IsAlone, IsDealt};
 ghost use Rattle.stream_cell.specs.Passes.{Looks, LooksOrStays, Meets, MeetsOrStays};
@@ -27,9 +29,9 @@ fn deal(
     count: u32,
 ) -> Result<Vec<CellPass>, AllocError>
     requires table { (seat.table_id ≡ shared.now.table_id) × (shared.now.table_id.words ≡ 2) }
-    requires seat { seat.me ≡ (passes_from shared.now.key.tube 0 count, []) }
-    ensures views { IfOk result (λ passes. map pass_view passes.items ≡ passes_from shared.now.key.tube 0 count) }
-    ensures passes { IfOk result (λ passes. All (IsDealt shared.now.table_id shared.now.key.tube) passes.items) }
+    requires seat { seat.me ≡ (passes_from shared.now.key.tube shared.now.key.passes 0 count, []) }
+    ensures views { IfOk result (λ passes. map pass_view passes.items ≡ passes_from shared.now.key.tube shared.now.key.passes 0 count) }
+    ensures passes { IfOk result (λ passes. All (IsDealt shared.now.table_id shared.now.key) passes.items) }
 {
     let mut passes = Vec::with_capacity(alloc, count as usize)?;
     for number in 0..count {
@@ -63,7 +65,7 @@ impl StreamCell {
     ) -> Result<(StreamCell, Vec<CellPass>), AllocError>
         requires { 1 ≤ passes }
         ensures cell { IfOk result (λ opened. (opening_of opened.0 ≡ opening.now) × (passes_of opened.0 ≡ passes)) }
-        ensures views { IfOk result (λ opened. map pass_view opened.1.items ≡ passes_from opening.now 0 passes) }
+        ensures views { IfOk result (λ opened. map pass_view opened.1.items ≡ passes_from opening.now passes 0 passes) }
         ensures passes { IfOk result (λ opened. All (IsPassOf opened.0) opened.1.items) }
     {
         let about = Opening {
@@ -105,6 +107,7 @@ impl CellLike for StreamCell {
         requires pass { IsPassOf self.now pass.old }
         requires shape { HasShapeOf into.old (opening_of self.now) }
         ensures pass { IsPassOf self.now pass.new }
+        ensures others { result ≡ shown.Busy → 1 < passes_of self.now }
         ensures looks { Looks (opening_of self.now) result into.old (pass_view pass.old) into.new (pass_view pass.new) }
         ensures shows { LooksOrStays (opening_of self.now) result into.old (pass_view pass.old) into.new (pass_view pass.new) }
     {
@@ -122,6 +125,7 @@ impl CellLike for StreamCell {
         requires shape { HasShapeOf (opening_of self.now) renewal.now }
         requires base { uses.now.base < 2 ^ 62 }
         ensures pass { IsPassOf self.now pass.new }
+        ensures others { result ≡ met.Busy → 1 < passes_of self.now }
         ensures judges { Meets (opening_of self.now) result (pass_view pass.old) renewal.now uses.now (pass_view pass.new) }
         ensures meets { MeetsOrStays (opening_of self.now) result (pass_view pass.old) renewal.now uses.now (pass_view pass.new) }
     {

@@ -1,10 +1,14 @@
-ghost use Rattle.std.specs.Prelude.{◌≡◌, ℕ, ◌+◌, ◌<◌, ◌^◌, length};
+ghost use Rattle.std.specs.Prelude.{◌≡◌, ℕ, ◌+◌, ◌<◌, ◌^◌, List, length};
+ghost use Rattle.atomic_table.specs.Table.{State};
 ghost use Rattle.relaxation.specs.Tube.{Tube, IsWithin};
-ghost use Rattle.relaxation.specs.History.{History, IsHistory, numbered};
+ghost use Rattle.relaxation.specs.History.{Begins, History, IsHistory, numbered};
 ghost use Rattle.tubes.specs.Shape.{HasShapeOf};
 ghost use Rattle.stream_cell.specs.Histories.{opened, newest, IsHistoryOf, Judges};
 ghost use Rattle.stream_cell.specs.declared.head.CellMet.{CellMet};
 ghost use Rattle.stream_cell.specs.declared.head.Uses.{Uses};
+ghost use Rattle.stream_cell.specs.declared.view.Opening.{Opening};
+ghost use Rattle.stream_cell.specs.declared.view.PassView.{PassView};
+ghost use Rattle.stream_cell.specs.Cell.{IsCell, IsIn};
 
 /// A tube as version 0 is a history that begins with it, and what meeting the last version with a renewal makes of a
 /// history begins with the same tube.
@@ -27,4 +31,12 @@ pub fn last_versions_can_be_met()
         HasShapeOf opening renewal → HasShapeOf (newest history).tube renewal }
     ensures stamp { (opening : Tube) (history : History) → IsHistoryOf opening history →
         (newest history).stamp + 1 < 2 ^ 64 }
+{}
+
+/// What its passes have seen binds the history of a cell: where each of them has seen in one state what begins all that it has
+/// seen in another, the history of the first begins that of the second.
+pub fn histories_only_grow()
+    ensures { (about : Opening) (before after : State History (List PassView)) (was : IsCell about before) (is : IsCell about after) →
+        ((v w : PassView) → IsIn before.views v → IsIn after.views w → v.number ≡ w.number → Begins v.seen w.seen) →
+        Begins was.history is.history }
 {}

@@ -5,8 +5,9 @@ ghost use Rattle.relaxation.specs.History.{History, Begins};
 ghost use Rattle.tubes.specs.Shape.{HasShapeOf};
 ghost use Rattle.stream_cell.specs.Histories.{newest, Judges};
 ghost use Rattle.stream_cell.specs.Passes.{missed};
-ghost use Rattle.stream_cell.specs.Seats.{IsPassOf, opening_of, pass_view};
-ghost use Rattle.stream_cell.specs.Steps.{IsAt, IsAppended, IsRead, appending, counting, free, holding, reading};
+ghost use Rattle.stream_cell.specs.Seats.{IsPassOf, opening_of, pass_view, passes_of};
+ghost use Rattle.stream_cell.specs.Kinds.{appending, free, holding, reading};
+ghost use Rattle.stream_cell.specs.Steps.{IsAt, IsAppended, IsRead, counting};
 ghost use Rattle.stream_cell.specs.declared.view.PassView.{PassView};
 
 use crate::head::{CellMet, Uses};
@@ -24,7 +25,7 @@ impl StreamCell {
     /// Takes the turn, and the history with it, unless another has it.
     pub(crate) fn seize(&self, pass: &mut CellPass) -> bool
         requires { IsPassOf self.now pass.old }
-        ensures busy { result ≡ false → IsPassOf self.now pass.new × (pass_view pass.new ≡ missed (pass_view pass.old)) }
+        ensures busy { result ≡ false → IsPassOf self.now pass.new × (pass_view pass.new ≡ missed (pass_view pass.old)) × (1 < passes_of self.now) }
         ensures held { result ≡ true → (history : History) × IsAt self.now pass.new (holding (pass_view pass.old) history) ((0, history) ∷ []) }
     {
         self.table.shared.swap::<Seizing>(&mut pass.seat, TURN, 1) == 0

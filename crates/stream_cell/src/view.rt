@@ -19,6 +19,8 @@ pub enum Turn {
 pub struct PassView {
     /// Which pass of its cell it is, from 0.
     pub number: u32,
+    /// How many passes its cell has.
+    pub passes: u32,
     /// The versions that it has seen, oldest first.
     pub seen: History,
     /// The numbers of the versions that it made, oldest first.
@@ -55,7 +57,7 @@ impl TableRule<History, LinkedList<PassView>, Opening> for CellTable {
 pub(crate) struct Seizing;
 
 impl Play<History, LinkedList<PassView>> for Seizing {
-    ghost use Rattle.stream_cell.specs.Steps.{seized};
+    ghost use Rattle.stream_cell.specs.Kinds.{seized};
 
     ghost then = { seized };
 }
@@ -64,7 +66,7 @@ impl Play<History, LinkedList<PassView>> for Seizing {
 pub(crate) struct Reading;
 
 impl Play<History, LinkedList<PassView>> for Reading {
-    ghost use Rattle.stream_cell.specs.Steps.{read};
+    ghost use Rattle.stream_cell.specs.Kinds.{read};
 
     ghost then = { read };
 }
@@ -73,7 +75,7 @@ impl Play<History, LinkedList<PassView>> for Reading {
 pub(crate) struct Appending;
 
 impl Play<History, LinkedList<PassView>> for Appending {
-    ghost use Rattle.stream_cell.specs.Steps.{appended};
+    ghost use Rattle.stream_cell.specs.Kinds.{appended};
 
     ghost then = { appended };
 }
@@ -82,7 +84,7 @@ impl Play<History, LinkedList<PassView>> for Appending {
 pub(crate) struct Releasing;
 
 impl Play<History, LinkedList<PassView>> for Releasing {
-    ghost use Rattle.stream_cell.specs.Steps.{released};
+    ghost use Rattle.stream_cell.specs.Kinds.{released};
 
     ghost then = { released };
 }

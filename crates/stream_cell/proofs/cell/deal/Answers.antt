@@ -10,10 +10,10 @@ split_seat-others-requires c = (search rules, search rules, cuts _ _ _)
 
 pub loop-number-preserved : goal.loop-number-preserved
 loop-number-preserved c =
-    let opening = c.args.shared.now.key.tube in
+    let about = c.args.shared.now.key in
     let number = c.loop-number.number in
     let count = c.args.count in
-    let dealt = IsDealt c.args.shared.now.table_id opening in
+    let dealt = IsDealt c.args.shared.now.table_id about in
     let me = c.loop-number.seat.me in
     let left = c.split_seat-others.result.me in
     let pass : CellPass = record { seat = c.split_seat-others.new.seat; number = number } in
@@ -21,8 +21,8 @@ loop-number-preserved c =
     let split = c.split_seat-others.ensures in
     record {
       table = split.3 ∙ is.table;
-      seat = left_is opening number count c.loop-number-test.true me left pass is.seat split.2 split.4 refl;
-      views = dealt_views opening number count c.loop-number-test.true me left pass is.seat split.2 split.4 refl c.loop-number.passes.items c.push.new.self.items is.views c.in_ok-push.ensures.items;
+      seat = left_is about number count c.loop-number-test.true me left pass is.seat split.2 split.4 refl;
+      views = dealt_views about number count c.loop-number-test.true me left pass is.seat split.2 split.4 refl c.loop-number.passes.items c.push.new.self.items is.views c.in_ok-push.ensures.items;
       passes = All-same dealt c.push.new.self.items _ c.in_ok-push.ensures.items (All-push dealt c.loop-number.passes.items pass is.passes
-          (is_dealt opening number count c.loop-number-test.true me left pass is.seat split.2 split.4 refl c.args.shared.now.table_id (split.0 ∙ is.table)));
+          (is_dealt about number count c.loop-number-test.true me left pass is.seat split.2 split.4 refl c.args.shared.now.table_id (split.0 ∙ is.table)));
     }

@@ -7,7 +7,7 @@ use Rattle.stream_cell.proofs.cell.deal.Given as goal
 abbrev pub invariant-loop-number : goal.invariant-loop-number
 invariant-loop-number l = record {
   table : l.seat.table_id ≡ l.shared.table_id;
-  seat : l.seat.me ≡ (passes_from l.shared.key.tube l.number (l.count - l.number), []);
-  views : map pass_view l.passes.items ++ l.seat.me.0 ≡ passes_from l.shared.key.tube 0 l.count;
-  passes : All (IsDealt l.shared.table_id l.shared.key.tube) l.passes.items;
+  seat : l.seat.me ≡ (passes_from l.shared.key.tube l.shared.key.passes l.number (l.count - l.number), []);
+  views : map pass_view l.passes.items ++ l.seat.me.0 ≡ passes_from l.shared.key.tube l.shared.key.passes 0 l.count;
+  passes : All (IsDealt l.shared.table_id l.shared.key) l.passes.items;
 }

@@ -2,7 +2,7 @@ use Rattle.std.proofs.Common.{sym, length, ap, ◌∙◌, arith}
 use Rattle.std.proofs.lemmas.List.Elements.{All-head, All-rest, All-same}
 use Rattle.std.specs.Vec.Iter.{into_iter_items}
 use Rattle.stream_cell.specs.Dealing.{IsAlone}
-use Rattle.stream_cell.specs.Steps.{MyMe}
+use Rattle.stream_cell.specs.Kinds.{MyMe}
 use Rattle.stream_cell.proofs.Dealing.{joins, joined_all}
 use Rattle.stream_cell.proofs.cell.join_all.Goals as goal
 

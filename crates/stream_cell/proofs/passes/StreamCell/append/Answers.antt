@@ -2,7 +2,8 @@ use Rattle.std.proofs.Common.{rules, ◌∷◌, [], ◌+◌, refl, ◌%◌, ◌^
 use mathlib.Core.Option.{none}
 use Rattle.atomic_table.specs.Table.{Allows, step}
 use Rattle.stream_cell.specs.Cell.{IsCell}
-use Rattle.stream_cell.specs.Steps.{IsAt, MyMe, appended, appending}
+use Rattle.stream_cell.specs.Kinds.{MyMe, appended, appending}
+use Rattle.stream_cell.specs.Steps.{IsAt}
 use Rattle.stream_cell.proofs.Stepping.{appends}
 use Rattle.stream_cell.proofs.passes.StreamCell.append.Goals as goal
 
@@ -24,7 +25,8 @@ returns c = λ v history is.
       table = c.fetch_add.ensures.0 ∙ is.at.table;
       me = told.1;
       number = is.at.number;
-      some = told.0.some;
-      opens = is.ordered.opens;
+      passes = is.at.passes;
+      ordered = is.ordered;
+      of = told.0;
     } in
-    record { at = now; turn = refl; ordered = is.ordered; of = told.0 }
+    record { at = now; turn = refl }

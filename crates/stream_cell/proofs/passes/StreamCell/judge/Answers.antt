@@ -17,4 +17,4 @@ meet-requires-clause-shape c =
     let v = c.requires.read.0 in
     let is = c.requires.read.1 in
     let same = lent c.args.self.now c.args.pass.now v v.seen c.slot_mut.result.now is.at c.slot_mut.ensures.value in
-    subst (λ (h : History). HasShapeOf (newest h).tube c.args.renewal.now) (sym same) (newest_shape _ _ v.seen is.ordered c.requires.shape)
+    subst (λ (h : History). HasShapeOf (newest h).tube c.args.renewal.now) (sym same) (newest_shape _ _ v.seen is.at.ordered c.requires.shape)

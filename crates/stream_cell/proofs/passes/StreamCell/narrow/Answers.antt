@@ -15,7 +15,7 @@ append-requires c =
       v,
       judged.0,
       appended_of c.args.self.now c.args.pass.now _ v _ c.args.uses.now _ _ judged.0 is
-          (newest_shape _ _ v.seen is.ordered c.requires.shape) c.requires.base judged.1 narrowed,
+          (newest_shape _ _ v.seen is.at.ordered c.requires.shape) c.requires.base judged.1 narrowed,
     )
 
 pub returns-in-Narrowed : goal.returns-in-Narrowed
@@ -23,7 +23,7 @@ returns-in-Narrowed c = λ v is.
     let judged = c.judge-met.ensures v is in
     let narrowed = subst (λ (met : CellMet). Judges met v.seen v.number c.args.renewal.now c.args.uses.now judged.0) c.in-Narrowed.is judged.2 in
     let counted = c.append.ensures v judged.0 (appended_of c.args.self.now c.args.pass.now _ v _ c.args.uses.now _ _ judged.0 is
-    (newest_shape _ _ v.seen is.ordered c.requires.shape) c.requires.base judged.1 narrowed) in (
+    (newest_shape _ _ v.seen is.at.ordered c.requires.shape) c.requires.base judged.1 narrowed) in (
       judged.0,
       subst (λ (met : CellMet). IsRead c.args.self.now c.append.new.pass (counting v met judged.0)) (sym c.in-Narrowed.is)
           (subst (IsRead c.args.self.now c.append.new.pass) (narrowed_is v _ c.args.uses.now _ _ judged.0 narrowed) counted),

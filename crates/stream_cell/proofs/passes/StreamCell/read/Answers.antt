@@ -3,7 +3,10 @@ use mathlib.Core.Option.{none}
 use Rattle.atomic_table.specs.Table.{Allows, step}
 use Rattle.stream_cell.specs.Cell.{IsCell}
 use Rattle.stream_cell.specs.Histories.{IsHistoryOf}
-use Rattle.stream_cell.specs.Steps.{IsAt, MyMe, holding, read, reading}
+use Rattle.stream_cell.specs.Seats.{opening_of}
+use Rattle.stream_cell.specs.Kinds.{MyMe, holding, read, reading}
+use Rattle.stream_cell.specs.Steps.{IsAt}
+use Rattle.stream_cell.proofs.Growing.{first_tube}
 use Rattle.stream_cell.proofs.Stepping.{reads}
 use Rattle.stream_cell.proofs.passes.StreamCell.read.Goals as goal
 
@@ -20,12 +23,14 @@ load-requires c =
 pub returns : goal.returns
 returns c = λ v history at.
     let told = c.load.ensures.2 (holding v history) history at.me refl in
-    let ordered = subst (λ opening. IsHistoryOf opening history) at.opens told.1 in
+    let opening = opening_of c.args.self.now in
+    let ordered = subst (λ tube. IsHistoryOf tube history) (first_tube opening v.seen at.ordered) told.1 in
     let now : IsAt c.args.self.now _ (reading v history) ((0, history) ∷ []) = record {
       table = c.load.ensures.0 ∙ at.table;
       me = told.3;
       number = at.number;
-      some = told.2.some;
-      opens = ordered.opens;
+      passes = at.passes;
+      ordered = ordered;
+      of = told.2;
     } in
-    (record { at = now; turn = refl; ordered = ordered; of = told.2 }, told.0)
+    (record { at = now; turn = refl }, told.0)

@@ -1,8 +1,10 @@
 use Rattle.std.proofs.Common.{rules, refl, sym, ◌∙◌, subst}
 use mathlib.Core.Option.{none}
 use Rattle.atomic_table.specs.Table.{Allows, step}
+use Rattle.stream_cell.specs.declared.view.Turn.TheVariants.{Free}
 use Rattle.stream_cell.specs.Cell.{IsCell}
-use Rattle.stream_cell.specs.Steps.{MyMe, free, released}
+use Rattle.stream_cell.specs.Kinds.{MyMe, free, released}
+use Rattle.stream_cell.proofs.Passing.{of_turning}
 use Rattle.stream_cell.proofs.Seating.{seated}
 use Rattle.stream_cell.proofs.Stepping.{releases}
 use Rattle.stream_cell.proofs.passes.StreamCell.release.Goals as goal
@@ -23,6 +25,7 @@ returns c = λ v is. seated c.args.self.now _ (free v)
       table = c.swap.ensures.0 ∙ is.at.table;
       me = c.swap.ensures.2 v v.seen is.at.me;
       number = is.at.number;
-      some = is.at.some;
-      opens = is.at.opens;
+      passes = is.at.passes;
+      ordered = is.at.ordered;
+      of = of_turning v.seen v Free v.looks v.misses is.at.of;
     }) refl

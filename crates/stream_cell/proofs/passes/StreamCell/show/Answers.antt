@@ -18,7 +18,7 @@ show-requires c =
     let is = c.requires.read.1 in
     let same = lent c.args.self.now c.args.pass.now v v.seen c.slot_mut.result.now is.at c.slot_mut.ensures.value in
     record {
-      shape = subst (λ (h : History). HasShapeOf c.args.into.now (newest h).tube) (sym same) (sym (newest_shape _ _ v.seen is.ordered (sym c.requires.shape)));
+      shape = subst (λ (h : History). HasShapeOf c.args.into.now (newest h).tube) (sym same) (sym (newest_shape _ _ v.seen is.at.ordered (sym c.requires.shape)));
     }
 
 pub returns-clause-pass : goal.returns-clause-pass
