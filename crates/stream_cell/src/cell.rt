@@ -30,6 +30,7 @@ fn deal(
 ) -> Result<Vec<CellPass>, AllocError>
     requires table { (seat.table_id ≡ shared.now.table_id) × (shared.now.table_id.words ≡ 2) }
     requires seat { seat.me ≡ (passes_from shared.now.key.tube shared.now.key.passes 0 count, []) }
+    ensures counted { IfOk result (λ passes. length passes.items ≡ count) }
     ensures views { IfOk result (λ passes. map pass_view passes.items ≡ passes_from shared.now.key.tube shared.now.key.passes 0 count) }
     ensures passes { IfOk result (λ passes. All (IsDealt shared.now.table_id shared.now.key) passes.items) }
 {
@@ -65,6 +66,7 @@ impl StreamCell {
     ) -> Result<(StreamCell, Vec<CellPass>), AllocError>
         requires { 1 ≤ passes }
         ensures cell { IfOk result (λ opened. (opening_of opened.0 ≡ opening.now) × (passes_of opened.0 ≡ passes)) }
+        ensures counted { IfOk result (λ opened. length opened.1.items ≡ passes) }
         ensures views { IfOk result (λ opened. map pass_view opened.1.items ≡ passes_from opening.now passes 0 passes) }
         ensures passes { IfOk result (λ opened. All (IsPassOf opened.0) opened.1.items) }
     {

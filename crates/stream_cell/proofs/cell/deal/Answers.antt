@@ -1,4 +1,5 @@
-use Rattle.std.proofs.Common.{rules, refl, ◌∙◌}
+use Rattle.std.proofs.Common.{rules, length, refl, ap, ◌∙◌, arith}
+use Rattle.std.proofs.lemmas.List.{length_push}
 use Rattle.std.proofs.lemmas.List.Elements.{All-push, All-same}
 use Rattle.stream_cell.specs.declared.passes.CellPass.{CellPass}
 use Rattle.stream_cell.specs.Dealing.{IsDealt}
@@ -22,6 +23,7 @@ loop-number-preserved c =
     record {
       table = split.3 ∙ is.table;
       seat = left_is about number count c.loop-number-test.true me left pass is.seat split.2 split.4 refl;
+      counted = omega (arith, length_push c.loop-number.passes.items pass, ap length c.in_ok-push.ensures.items);
       views = dealt_views about number count c.loop-number-test.true me left pass is.seat split.2 split.4 refl c.loop-number.passes.items c.push.new.self.items is.views c.in_ok-push.ensures.items;
       passes = All-same dealt c.push.new.self.items _ c.in_ok-push.ensures.items (All-push dealt c.loop-number.passes.items pass is.passes
           (is_dealt about number count c.loop-number-test.true me left pass is.seat split.2 split.4 refl c.args.shared.now.table_id (split.0 ∙ is.table)));
