@@ -34,6 +34,6 @@ pub fn settled(alloc: Global, plan: &WindowPlan<'_>, stream: u32) -> Result<Tube
     requires { stream < length (streams_of plan.now.parts) }
 {
     let mut board = Board::open(alloc, plan)?;
-    board.settle(alloc)?;
+    board.settle()?;
     board.last(stream).copied(alloc)
 }

@@ -21,7 +21,7 @@ use Rattle.worker.proofs.Grown.{begins-same, next-grown, next-same}
 -- the pass at a place
 pub view-at : (passes : List CellPass) (s : ℕ) (pass : CellPass) → s < length passes →
     view_of passes s ≡ pass_view (slice_index_or passes s pass)
-view-at passes s pass l = at-map pass_view passes s pass (new_pass [] 0) l
+view-at passes s pass l = at-map pass_view passes s pass (new_pass [] 0 0) l
 
 -- what it has seen
 pub seen-at : (passes : List CellPass) (s : ℕ) → s < length passes → history_of (seen_by passes) s ≡ (view_of passes s).seen
@@ -36,8 +36,8 @@ view-here (pass ∷ passes) zero new l = refl
 view-here (pass ∷ passes) (suc s) new l = view-here passes s new (omega arith)
 
 pub view-there : (passes : List CellPass) (s q : ℕ) (new : CellPass) → q ≢ s → view_of (slice_set passes s new) q ≡ view_of passes q
-view-there passes s q new n = ap (λ (views : List PassView). slice_index_or views q (new_pass [] 0)) (map-set pass_view passes s new)
-    ∙ get_or-set_other (map pass_view passes) s q (pass_view new) (new_pass [] 0) n
+view-there passes s q new n = ap (λ (views : List PassView). slice_index_or views q (new_pass [] 0 0)) (map-set pass_view passes s new)
+    ∙ get_or-set_other (map pass_view passes) s q (pass_view new) (new_pass [] 0 0) n
 
 -- A pass that has seen a longer history: each version of it behind another that its worker made was there before, or was made so.
 pub record IsLater (opening : Tube) (worker : ℕ) (old new : PassView) (IsMade : ℕ → Type 0) : Type 0 where

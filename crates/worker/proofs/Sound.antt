@@ -16,6 +16,7 @@ use Rattle.stream_cell.specs.declared.passes.CellPass.{CellPass}
 use Rattle.stream_cell.specs.declared.view.PassView.{PassView}
 use Rattle.stream_cell.specs.Passes.{IsOf, made_by, new_pass}
 use Rattle.stream_cell.specs.Seats.{IsClosedBy, pass_view}
+use Rattle.stream_cell.proofs.Growing.{first_tube}
 use Rattle.worker.specs.Knowing.{IsKnown, IsNextMade, seen_by, view_of}
 
 -- the pass with this number made the version
@@ -62,7 +63,7 @@ seen-at : (passes : List CellPass) (s : ℕ) → s < length passes → history_o
 seen-at passes s l =
     let pass = item passes s l in
     at-map (λ (p : CellPass). (pass_view p).seen) passes s pass [] l
-    ∙ ap (λ (v : PassView). v.seen) (sym (at-map pass_view passes s pass (new_pass [] 0) l))
+    ∙ ap (λ (v : PassView). v.seen) (sym (at-map pass_view passes s pass (new_pass [] 0 0) l))
 
 -- what was made from histories as they were seen was made from the whole ones
 made-whole : (window : Window) (seen whole : List History) → AllBegin seen whole → (front history : History) (origin : Origin) (k : ℕ) →
@@ -92,13 +93,13 @@ module _ (plan : PlanOf) (hands : List (List CellPass)) (histories : List Histor
   pass-there w s l m = subst (λ n. s < n) (counted ∙ sym (known w l).counted) m
 
   -- the views of a stream are those of the workers' passes, in order
-  views-at : (w s : ℕ) → w < length hands → slice_index_or (map (λ hand. view_of hand s) hands) w (new_pass [] 0) ≡ view_of (hand w) s
-  views-at w s l = at-map (λ hand. view_of hand s) hands w [] (new_pass [] 0) l
+  views-at : (w s : ℕ) → w < length hands → slice_index_or (map (λ hand. view_of hand s) hands) w (new_pass [] 0 0) ≡ view_of (hand w) s
+  views-at w s l = at-map (λ hand. view_of hand s) hands w [] (new_pass [] 0 0) l
 
   -- a worker's pass is of the stream's history
   pass-of : (w s : ℕ) → w < length hands → s < length histories → IsOf (history_of histories s) (view_of (hand w) s)
   pass-of w s l m = subst (IsOf (history_of histories s)) (views-at w s l)
-      ((closed s m).each w (new_pass [] 0) (omega (arith, length-map hands (λ hand. view_of hand s))))
+      ((closed s m).each w (new_pass [] 0 0) (omega (arith, length-map hands (λ hand. view_of hand s))))
 
   -- so what a worker has seen begins the histories
   all-begin : (w : ℕ) → w < length hands → AllBegin (seen_by (hand w)) histories
@@ -121,7 +122,7 @@ module _ (plan : PlanOf) (hands : List (List CellPass)) (histories : List Histor
       let there : w < length hands
       = omega (arith, found.1, length-map views (λ (v : PassView). v.number), length-map hands (λ hand. view_of hand s)) in
       let number : slice_index_or (map (λ (v : PassView). v.number) views) w maker ≡ w
-      = at-map (λ (v : PassView). v.number) views w (new_pass [] 0) maker (omega (arith, there, length-map hands (λ hand. view_of hand s)))
+      = at-map (λ (v : PassView). v.number) views w (new_pass [] 0 0) maker (omega (arith, there, length-map hands (λ hand. view_of hand s)))
       ∙ ap (λ (v : PassView). v.number) (views-at w s there) ∙ (known w there).numbers s (pass-there w s there m) in
       (w, there, sym found.2 ∙ number)
 
@@ -147,7 +148,7 @@ module _ (plan : PlanOf) (hands : List (List CellPass)) (histories : List Histor
   sound = record {
     counted = counted ∙ sym (streams-counted plan.parts);
     history = λ s l. (closed s l).ordered.ordered;
-    opening = λ s l. (closed s l).ordered.opens;
+    opening = λ s l. first_tube ((window_of plan).opening s) (history_of histories s) (closed s l).ordered;
     made = λ s l. sound-from (window_of plan) histories (history_of histories s) (origin_of (plant_of plan.parts) s)
         (closed s l).ordered.ordered.opened (λ k m. next-made s k l m);
   }

@@ -18,7 +18,7 @@ abbrev pub seen_by : List CellPass → List History
 seen_by passes = map (λ (pass : CellPass). (pass_view pass).seen) passes
 
 abbrev pub view_of : List CellPass → ℕ → PassView
-view_of passes s = slice_index_or (map pass_view passes) s (new_pass [] 0)
+view_of passes s = slice_index_or (map pass_view passes) s (new_pass [] 0 0)
 
 -- the version of a history behind this one was made from versions of these histories, by the unit that gives the stream
 abbrev pub IsNextMade : Window → List History → History → Origin → ℕ → Type 0
