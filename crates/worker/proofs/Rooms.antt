@@ -4,7 +4,7 @@ use Rattle.std.specs.Prelude.{slice_index_or, slice_set}
 use Rattle.std.proofs.lemmas.Bool.{cases_eq}
 use Rattle.std.proofs.lemmas.List.{length_push, get_or_append_left, get_or_push, get_or-set_same, get_or-set_other}
 use Rattle.renewal.specs.Plan.{PlanOf}
-use Rattle.worker.specs.Looking.{IsUnitRoom}
+use Rattle.worker.specs.Rooms.{IsUnitRoom}
 use Rattle.worker.specs.declared.room.UnitRoom.{UnitRoom}
 
 -- room for the units below n

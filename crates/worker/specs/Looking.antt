@@ -52,13 +52,3 @@ pub record IsMadeOf (plan : PlanOf) (histories : List History) (s : ℕ) (uses :
   pub seen : AreSeen histories uses.base (planned plan unit).reads uses.refs tubes
   pub renewed : made ≡ renewal (window_of plan) unit output tubes
   pub shape : HasShapeOf ((window_of plan).opening s) made
-
--- the unit may be renewed in it
-pub record IsUnitRoom (plan : PlanOf) (u : ℕ) (room : UnitRoom) : Type 0 where
-  pub inputs : AreOpened plan (planned plan u).reads room.inputs
-  pub outputs : HasRoomFor plan u room.outputs
-
--- there is room for each unit
-pub record IsRoom (plan : PlanOf) (room : Room) : Type 0 where
-  pub counted : length room.units.items ≡ length (units_of plan.parts)
-  pub each : (u : ℕ) (d : UnitRoom) → u < length (units_of plan.parts) → IsUnitRoom plan u (slice_index_or room.units.items u d)

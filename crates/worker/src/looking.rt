@@ -9,7 +9,8 @@ ghost use Rattle.plant_units.specs.Units.{units_of};
 ghost use Rattle.renewal.specs.Plan.{window_of};
 ghost use Rattle.renewal.specs.Room.{planned};
 ghost use Rattle.worker.specs.Knowing.{IsHand, seen_by};
-ghost use Rattle.worker.specs.Looking.{AreSeen, IsUnitRoom, Shows};
+ghost use Rattle.worker.specs.Looking.{AreSeen, Shows};
+ghost use Rattle.worker.specs.Rooms.{IsUnitRoom};
 
 use crate::room::UnitRoom;
 use renewal::WindowPlan;

@@ -2,7 +2,7 @@
 
 ghost use Rattle.std.specs.Prelude.{◌≡◌, ◌<◌, Some, None, IfOk, length};
 ghost use Rattle.plant_units.specs.Units.{units_of};
-ghost use Rattle.worker.specs.Looking.{IsRoom, IsUnitRoom};
+ghost use Rattle.worker.specs.Rooms.{IsRoom, IsUnitRoom};
 
 use renewal::{Inputs, Outputs, WindowPlan};
 use std::alloc::{AllocError, Global};
@@ -24,7 +24,7 @@ pub(crate) struct UnitRoom {
     pub(crate) renewed: Option<Refs>,
 }
 
-/// A worker's room for the renewals of each unit of a plan.
+/// A worker's room for the renewals of each unit of a plan, for one run over the cells of one window.
 #[derive(Drop)]
 pub struct Room {
     pub(crate) units: Vec<UnitRoom>,

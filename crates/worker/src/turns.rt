@@ -3,7 +3,7 @@
 ghost use Rattle.std.specs.Prelude.{◌≡◌, ◌<◌, ◌≤◌, length};
 ghost use Rattle.plant_units.specs.Units.{units_of};
 ghost use Rattle.worker.specs.Knowing.{IsHand};
-ghost use Rattle.worker.specs.Looking.{IsRoom, IsUnitRoom};
+ghost use Rattle.worker.specs.Rooms.{IsRoom, IsUnitRoom};
 
 use crate::hand::Hand;
 use crate::looking::look_all;

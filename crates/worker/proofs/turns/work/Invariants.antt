@@ -2,7 +2,7 @@
 use Rattle.std.proofs.Common.{◌+◌, ◌*◌, ◌<◌, ◌≤◌, length}
 use Rattle.plant_units.specs.Units.{units_of}
 use Rattle.worker.specs.Knowing.{IsHand}
-use Rattle.worker.specs.Looking.{IsRoom}
+use Rattle.worker.specs.Rooms.{IsRoom}
 use Rattle.worker.proofs.turns.work.Given as goal
 
 abbrev pub invariant-loop-turns : goal.invariant-loop-turns
