@@ -1,2 +1,4 @@
 pub mod Answers
+pub mod Benches
 pub mod Gathering
+pub mod Working

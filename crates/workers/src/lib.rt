@@ -3,6 +3,8 @@
 
 mod gathering;
 mod laws;
+mod relaxing;
 
 pub use gathering::gather;
 pub use laws::gathered_histories_can_be_adopted;
+pub use relaxing::relax_cells;
