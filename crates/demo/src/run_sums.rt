@@ -9,7 +9,7 @@ ghost use Rattle.demo.specs.Following.{HasMoved, IsFollowing, IsSmallPlant, IsWi
 use crate::sums::Sums;
 use crate::window_sums::window_sums;
 use feeds::FeedReader;
-use flow_edge::NoSource;
+use flow_edge::{Gate, NoSource};
 use parts::Parts;
 use relax_core::{Chaos, Window};
 use std::alloc::{AllocError, Global};
@@ -30,6 +30,7 @@ fn next_window<R: Threads + Sync, C: Chaos>(
     session: &mut Session,
     chaos: &mut C,
     feeds: &mut FeedReader,
+    gate: &(dyn Gate + Sync),
 ) -> Result<Window, AllocError>
     requires small { IsSmallPlant session.old.parts }
     requires following { IsFollowing session.old feeds.old }
@@ -38,7 +39,7 @@ fn next_window<R: Threads + Sync, C: Chaos>(
     ensures run { IfOk result (HasRunAt session.old.parts None session.old.tick (next_ticks session.old)) }
 {
     sessions_follow_the_run();
-    match session.next_window(rt, alloc, chaos, feeds, &mut NoSource) {
+    match session.next_window(rt, alloc, chaos, feeds, &mut NoSource, gate) {
         Ok(window) => Ok(window),
         Err(WindowEnd::NoMemory) => Err(AllocError),
         Err(WindowEnd::Finished) => unreachable!(),
@@ -53,6 +54,7 @@ pub(crate) fn run_sums<R: Threads + Sync, C: Chaos>(
     alloc: Global,
     session: &mut Session,
     chaos: &mut C,
+    gate: &(dyn Gate + Sync),
 ) -> Result<Sums, AllocError>
     requires small { IsSmallPlant session.old.parts }
     requires opening { session.old ≡ opening_session session.old.parts }
@@ -64,7 +66,7 @@ pub(crate) fn run_sums<R: Threads + Sync, C: Chaos>(
     let count = window_count(session.plant().parts());
     let mut sums = Sums::NONE;
     for _ in 0..count {
-        let window = next_window(rt, alloc, session, chaos, &mut feeds)?;
+        let window = next_window(rt, alloc, session, chaos, &mut feeds, gate)?;
         sums = sums.plus(window_sums(&window));
     }
     Ok(sums)

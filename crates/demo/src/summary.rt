@@ -6,6 +6,7 @@ ghost use Rattle.demo.specs.Summary.{summary};
 
 use crate::run_sums::run_sums;
 use crate::texts::summary_text;
+use flow_edge::Gate;
 use plant::{Plant, Unbuilt};
 use plant_gen::{generated_plants_are_plants, plant_of};
 use plant_names::Text;
@@ -37,12 +38,13 @@ pub fn summary_of<R: Threads + Sync, C: Chaos + Drop>(
     alloc: Global,
     stages: u32,
     mut chaos: C,
+    gate: &(dyn Gate + Sync),
 ) -> Result<Text, AllocError>
     requires some { 1 ≤ stages }
     requires few { stages ≤ longest_train }
     ensures { IfOk result (λ text. text ≡ summary stages) }
 {
     let mut session = Session::open(alloc, generated_plant(alloc, stages)?)?;
-    let sums = run_sums(rt, alloc, &mut session, &mut chaos)?;
+    let sums = run_sums(rt, alloc, &mut session, &mut chaos, gate)?;
     summary_text(alloc, stages, session.plant(), sums)
 }

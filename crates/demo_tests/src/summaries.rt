@@ -2,6 +2,7 @@
 
 use crate::stepped::stepped_summary;
 use demo::summary_of;
+use flow_edge::OpenGate;
 use relax_core::NoChaos;
 use std::alloc::Global;
 use std::process::Abort;
@@ -38,7 +39,7 @@ fn has_summary<R: Abort + Threads + Sync>(
     if stages == 0 || 80 < stages {
         return Err("no such plant".into());
     }
-    let relaxed = summary_of(rt, alloc, stages, NoChaos::new())?;
+    let relaxed = summary_of(rt, alloc, stages, NoChaos::new(), &OpenGate)?;
     assert!(rt; relaxed.as_bytes() == text.as_bytes(), "{stages} stages");
     let stepped = stepped_summary(alloc, stages)?;
     assert!(rt;

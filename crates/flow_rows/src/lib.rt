@@ -2,14 +2,4 @@
 #![tactic(auto)]
 
 #[cfg(test)]
-mod calls;
-#[cfg(test)]
-mod cases;
-#[cfg(test)]
-mod records;
-#[cfg(test)]
-mod runs;
-#[cfg(test)]
-mod sources;
-#[cfg(test)]
-mod written;
+mod tests;

@@ -26,7 +26,7 @@ use Rattle.flow_top.specs.declared.fault.End.TheVariants.{Stopped, NoMemory}
 use Rattle.flow_top.specs.declared.fault.Unfit.{Unfit}
 use Rattle.flow_top.specs.declared.fault.Unfit.TheVariants as unfit
 use Rattle.flow_top.specs.declared.making.Texts.{Texts}
-use Rattle.flow_top.specs.Words.{reads_records}
+use Rattle.flow_top.specs.Words.{reads_records, most_workers}
 use Rattle.flow_top.specs.Faults.{stop_by}
 use Rattle.flow_top.specs.Judged.{Judgement}
 use Rattle.flow_top.specs.WindowsCourse.{first_tick, window_rows, traced_in, IsAccepted, StopsAfter}
@@ -36,24 +36,29 @@ use Rattle.flow_top.specs.Ended.{SaysParts, IsRefused, WorkEnded, AreTold, recor
 -- how many options a request has, and the position behind them
 abbrev pub given : Option ℕ → ℕ
 given None = 0
-given (Some at) = 1
+given (Some value) = 1
 
 abbrev pub first_option : Command → ℕ
 first_option (Demo stages) = 3
 first_option command = 2
 
 abbrev pub place_after : Request → ℕ
-place_after request = first_option request.command + 2 * (given request.feeds + given request.journal)
+place_after request = first_option request.command + 2 * (given request.feeds + given request.journal + given request.workers)
 
 -- a plant can be generated of so many stages
 abbrev pub AreStages : Command → Type 0
 AreStages (Demo stages) = (1 ≤ stages) × (stages ≤ longest_train)
 AreStages command = Unit {0}
 
--- a request for records comes with a command that reads them
+-- so many workers can relax
+abbrev pub AreWorkers : ℕ → Type 0
+AreWorkers count = (1 ≤ count) × (count ≤ most_workers)
+
+-- a request for records comes with a command that reads them, and one for workers with a number of them that can relax
 pub record IsAsked (request : Request) : Type 0 where
   pub stages : AreStages request.command
   pub unread : reads_records request.command ≡ false → request.feeds ≡ None
+  pub workers : IfSome request.workers AreWorkers
 
 -- a fact of the judgement that was found, unless memory ran out
 abbrev pub Finds : (Judgement → Type 0) → Result FileParts Unfit → Type 0

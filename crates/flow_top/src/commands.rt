@@ -3,21 +3,21 @@
 ghost use Rattle.std.specs.Prelude.{◌≡◌};
 ghost use Rattle.flow_top.specs.declared.words.Command.TheVariants.{Run, Direct};
 ghost use Rattle.window_accept.specs.Session.{opening_session};
-ghost use Rattle.flow_top.specs.Steps.{WritesBy, RequestEnded};
+ghost use Rattle.flow_top.specs.Steps.{IsAsked, WritesBy, RequestEnded};
 ghost use Rattle.flow_top.specs.Uses.{source_use, sinks_use};
 
 use crate::fault::End;
 use crate::making::{MakesTexts, Relaxed};
 use crate::windows::write_windows;
-use crate::words::Request;
+use crate::words::{Request, worker_count};
 use feeds::FeedReader;
-use flow_edge::{NoSource, Sink, Source};
+use flow_edge::{Gate, NoSource, OpenGate, Sink, Source};
 use plant::Plant;
-use relax_core::NoChaos;
 use std::alloc::Global;
 use std::thread::Threads;
 use stepping::Stepper;
 use window_accept::Session;
+use workers::Workers;
 
 /// Writes the windows of a plant by the records of a source, where the request asks for them. Else the source is not touched.
 fn write_fed<R: Threads + Sync, W: MakesTexts, E: Source, O: Sink, T: Sink>(
@@ -28,6 +28,7 @@ fn write_fed<R: Threads + Sync, W: MakesTexts, E: Source, O: Sink, T: Sink>(
     extra: &mut E,
     out: &mut O,
     trace: &mut T,
+    gate: &(dyn Gate + Sync),
 ) -> Result<(), End>
     requires writes { WritesBy request.command W.relaxes }
     requires opening { (W.session windows.old) ≡ opening_session (W.session windows.old).parts }
@@ -38,17 +39,21 @@ fn write_fed<R: Threads + Sync, W: MakesTexts, E: Source, O: Sink, T: Sink>(
     match request.feeds {
         Some(_) => {
             let mut feeds = FeedReader::over(alloc, windows.plant())?;
-            write_windows(rt, alloc, command, windows, &mut feeds, extra, out, trace)
+            write_windows(
+                rt, alloc, command, windows, &mut feeds, extra, out, trace, gate,
+            )
         }
         None => {
             let mut feeds = FeedReader::plain(alloc, windows.plant())?;
             let source = &mut NoSource;
-            write_windows(rt, alloc, command, windows, &mut feeds, source, out, trace)
+            write_windows(
+                rt, alloc, command, windows, &mut feeds, source, out, trace, gate,
+            )
         }
     }
 }
 
-/// Relaxes the windows of a plant, and writes their rows and the steps that settled them.
+/// Relaxes the windows of a plant with the workers that are asked for, and writes their rows and the steps that settled them.
 pub fn write_run<R: Threads + Sync, E: Source, O: Sink, T: Sink>(
     rt: &R,
     alloc: Global,
@@ -57,13 +62,16 @@ pub fn write_run<R: Threads + Sync, E: Source, O: Sink, T: Sink>(
     extra: &mut E,
     out: &mut O,
     trace: &mut T,
+    gate: &(dyn Gate + Sync),
 ) -> Result<(), End>
-    requires { request.command ≡ Run }
+    requires asked { IsAsked request }
+    requires runs { request.command ≡ Run }
     ensures { RequestEnded request plant (source_use E.left E.faults extra.old extra.new)
         (sinks_use O.given O.faults out.old out.new T.given T.faults trace.old trace.new) result }
 {
-    let mut windows = Relaxed::new(Session::open(alloc, plant)?, NoChaos::new());
-    write_fed(rt, alloc, request, &mut windows, extra, out, trace)
+    let workers = Workers::new(alloc, worker_count(request));
+    let mut windows = Relaxed::new(Session::open(alloc, plant)?, workers);
+    write_fed(rt, alloc, request, &mut windows, extra, out, trace, gate)
 }
 
 /// Steps the plant, and writes the rows of its windows.
@@ -81,5 +89,14 @@ pub fn write_direct<R: Threads + Sync, E: Source, O: Sink, T: Sink>(
         (sinks_use O.given O.faults out.old out.new T.given T.faults trace.old trace.new) result }
 {
     let mut windows = Stepper::open(alloc, plant)?;
-    write_fed(rt, alloc, request, &mut windows, extra, out, trace)
+    write_fed(
+        rt,
+        alloc,
+        request,
+        &mut windows,
+        extra,
+        out,
+        trace,
+        &OpenGate,
+    )
 }

@@ -8,7 +8,7 @@ ghost use Rattle.window_accept.specs.Session.{SessionOf, IsSession, IsReady};
 ghost use Rattle.flow_top.specs.Steps.{AreTextsOf, NextTexts};
 
 use feeds::FeedReader;
-use flow_edge::Source;
+use flow_edge::{Gate, Source};
 use plant::Plant;
 use plant_names::Text;
 use relax_core::{Chaos, Window};
@@ -46,6 +46,7 @@ pub(crate) trait MakesTexts {
         index: u32,
         feeds: &mut FeedReader,
         source: &mut E,
+        gate: &(dyn Gate + Sync),
     ) -> Result<Texts, WindowEnd>
         requires sync { IsSync R.row }
         requires ready { IsReady (session self.old) feeds.old }
@@ -103,11 +104,12 @@ impl<C: Chaos> MakesTexts for Relaxed<C> {
         index: u32,
         feeds: &mut FeedReader,
         source: &mut E,
+        gate: &(dyn Gate + Sync),
     ) -> Result<Texts, WindowEnd> {
         readers_stay_ready();
         match self
             .session
-            .next_window(rt, alloc, &mut self.chaos, feeds, source)
+            .next_window(rt, alloc, &mut self.chaos, feeds, source, gate)
         {
             Ok(window) => Ok(window_texts(alloc, self.session.plant(), index, &window)?),
             Err(end) => Err(end),
@@ -133,6 +135,7 @@ impl MakesTexts for Stepper {
         _index: u32,
         feeds: &mut FeedReader,
         source: &mut E,
+        _gate: &(dyn Gate + Sync),
     ) -> Result<Texts, WindowEnd> {
         match self.next_rows(alloc, feeds, source) {
             Ok(rows) => Ok(Texts { rows, steps: None }),

@@ -31,15 +31,17 @@ use window_accept::first_wide_places_are_one;
 
 /// Does a command. `plant` holds the plant text and `out` is given the output; what goes wrong is said to `err` in one
 /// line. `run` gives the interval run of the plant, up to the first window in which a band is wider than the plant asks, by
-/// relaxing each window, and gives `trace` the steps that narrowed; `direct` gives the same by stepping the plant; `check` gives its
-/// units with their kinds and ranks. `demo` reads no plant, and gives the summary of a generated one. Where the words name a file of feed records, `extra` holds these, and the run ends before the
-/// window that takes the first of them that is refused. `gate` is not used yet.
+/// relaxing each window with workers, and gives `trace` the steps that narrowed; `direct` gives the same by stepping the plant;
+/// `check` gives its units with their kinds and ranks. `demo` reads no plant, and gives the summary of a generated one, which
+/// workers relax too. Where the words name a file of feed records, `extra` holds these, and the run ends before the window that
+/// takes the first of them that is refused. There are as many workers as the words ask for, or else 4, and each calls `gate` before
+/// each of its turns; neither changes what the clauses say.
 ///
 /// Every answer but want of memory has its cause: refused words, a plant text or a record that is refused, a band that is wider
 /// than was asked, or a device whose count of faults rose in this call. The clauses below say so status by status; all but the
 /// last follow from the last, `stands`. What stands of a command's course is said where the words ask for no records, or `extra`
 /// tells its text.
-pub fn flow_top<R, S, E, O, T, F, G>(
+pub fn flow_top<R, S, E, O, T, F>(
     rt: &R,
     alloc: Global,
     words: &[Word],
@@ -48,7 +50,7 @@ pub fn flow_top<R, S, E, O, T, F, G>(
     out: &mut O,
     trace: &mut T,
     err: &mut F,
-    gate: &G,
+    gate: &(dyn Gate + Sync),
 ) -> Status
 where
     R: Threads + Sync,
@@ -57,7 +59,6 @@ where
     O: Sink,
     T: Sink,
     F: Sink,
-    G: Gate + Sync,
     // Done: the words are a command, the plant source was read to its end, and so were the records that the words ask for, and all
     // that the command writes for the plant of its text was written, with a legal trace of it, and nothing to the errors.
     ensures done { result ≡ Status.Done → TellsRecords words.now (source_use E.left E.faults extra.old extra.new) →
@@ -142,7 +143,7 @@ where
         result }
 {
     first_wide_places_are_one();
-    let ended = work(rt, alloc, words, plant, extra, out, trace);
+    let ended = work(rt, alloc, words, plant, extra, out, trace, gate);
     say(alloc, &ended, err)
 }
 
@@ -155,6 +156,7 @@ fn work<R: Threads + Sync, S: Source, E: Source, O: Sink, T: Sink>(
     extra: &mut E,
     out: &mut O,
     trace: &mut T,
+    gate: &(dyn Gate + Sync),
 ) -> Result<(), End>
     ensures { Ended words.now
         (source_use S.left S.faults source.old source.new)
@@ -163,7 +165,7 @@ fn work<R: Threads + Sync, S: Source, E: Source, O: Sink, T: Sink>(
         result }
 {
     match request_in(words) {
-        Ok(request) => do_request(rt, alloc, request, source, extra, out, trace),
+        Ok(request) => do_request(rt, alloc, request, source, extra, out, trace, gate),
         Err(at) => Err(End::Stopped(Stop {
             fault: TopFault::Words { at },
             status: Status::Words,
@@ -180,6 +182,7 @@ fn do_request<R: Threads + Sync, S: Source, E: Source, O: Sink, T: Sink>(
     extra: &mut E,
     out: &mut O,
     trace: &mut T,
+    gate: &(dyn Gate + Sync),
 ) -> Result<(), End>
     requires asked { IsAsked request }
     ensures { CommandEnded request
@@ -189,9 +192,9 @@ fn do_request<R: Threads + Sync, S: Source, E: Source, O: Sink, T: Sink>(
         result }
 {
     match request.command {
-        Command::Demo { stages } => write_summary(rt, alloc, stages, out),
+        Command::Demo { stages } => write_summary(rt, alloc, request, stages, out, gate),
         Command::Run | Command::Direct | Command::Check => {
-            do_command(rt, alloc, request, source, extra, out, trace)
+            do_command(rt, alloc, request, source, extra, out, trace, gate)
         }
     }
 }
@@ -205,6 +208,7 @@ fn do_command<R: Threads + Sync, S: Source, E: Source, O: Sink, T: Sink>(
     extra: &mut E,
     out: &mut O,
     trace: &mut T,
+    gate: &(dyn Gate + Sync),
 ) -> Result<(), End>
     requires asked { IsAsked request }
     requires reads { ReadsPlant request.command }
@@ -215,7 +219,7 @@ fn do_command<R: Threads + Sync, S: Source, E: Source, O: Sink, T: Sink>(
         result }
 {
     match plant_from(alloc, request.command, source) {
-        Ok(plant) => do_on_plant(rt, alloc, request, plant, extra, out, trace),
+        Ok(plant) => do_on_plant(rt, alloc, request, plant, extra, out, trace, gate),
         Err(end) => Err(end),
     }
 }
@@ -229,6 +233,7 @@ fn do_on_plant<R: Threads + Sync, E: Source, O: Sink, T: Sink>(
     extra: &mut E,
     out: &mut O,
     trace: &mut T,
+    gate: &(dyn Gate + Sync),
 ) -> Result<(), End>
     requires asked { IsAsked request }
     requires reads { ReadsPlant request.command }
@@ -237,7 +242,7 @@ fn do_on_plant<R: Threads + Sync, E: Source, O: Sink, T: Sink>(
         (sinks_use O.given O.faults out.old out.new T.given T.faults trace.old trace.new) result }
 {
     match request.command {
-        Command::Run => write_run(rt, alloc, request, plant, extra, out, trace),
+        Command::Run => write_run(rt, alloc, request, plant, extra, out, trace, gate),
         Command::Direct => write_direct(rt, alloc, request, plant, extra, out, trace),
         Command::Check => write_ranks(alloc, &plant, out),
         Command::Demo { .. } => unreachable!(),

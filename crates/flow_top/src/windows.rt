@@ -22,7 +22,7 @@ use crate::pieces::write_pair;
 use crate::stops::stop_by;
 use crate::words::Command;
 use feeds::{FeedFault, FeedReader};
-use flow_edge::{Sink, Source};
+use flow_edge::{Gate, Sink, Source};
 use parts::Parts;
 use plant::Plant;
 use plant_names::Text;
@@ -99,6 +99,7 @@ fn next_texts<R: Threads + Sync, W: MakesTexts, E: Source>(
     windows: &mut W,
     feeds: &mut FeedReader,
     extra: &mut E,
+    gate: &(dyn Gate + Sync),
 ) -> Result<Texts, End>
     requires writes { WritesBy command W.relaxes }
     requires before { IsBefore index (W.session windows.old) feeds.old }
@@ -114,7 +115,7 @@ fn next_texts<R: Threads + Sync, W: MakesTexts, E: Source>(
 {
     sessions_follow_the_run();
     readers_stay_ready();
-    match windows.next_texts(rt, alloc, index, feeds, extra) {
+    match windows.next_texts(rt, alloc, index, feeds, extra, gate) {
         Ok(texts) => Ok(texts),
         Err(WindowEnd::Wide { place }) => Err(end_by_width(alloc, command, windows.plant(), place)),
         Err(WindowEnd::NoMemory) => Err(End::NoMemory),
@@ -149,6 +150,7 @@ pub fn write_windows<R: Threads + Sync, W: MakesTexts, E: Source, O: Sink, T: Si
     extra: &mut E,
     out: &mut O,
     trace: &mut T,
+    gate: &(dyn Gate + Sync),
 ) -> Result<(), End>
     requires writes { WritesBy command W.relaxes }
     requires opening { (W.session windows.old) ≡ opening_session (W.session windows.old).parts }
@@ -172,7 +174,7 @@ pub fn write_windows<R: Threads + Sync, W: MakesTexts, E: Source, O: Sink, T: Si
         trace,
     )?;
     for index in 0..count {
-        let texts = next_texts(rt, alloc, command, index, windows, feeds, extra)?;
+        let texts = next_texts(rt, alloc, command, index, windows, feeds, extra, gate)?;
         write_texts(command, &texts, out, trace)?;
     }
     Ok(())

@@ -1,6 +1,7 @@
-ghost use Rattle.std.specs.Prelude.{◌≡◌, Some};
-ghost use Rattle.flow_top.specs.Words.{command_named, reads_records, writes_trace, takes, with_file, options_in, bare_request, up_to, count_in, demo_in, request_in};
-ghost use Rattle.flow_top.specs.Steps.{place_after};
+ghost use Rattle.std.specs.Prelude.{◌≡◌, ◌≤◌, Some};
+ghost use Rattle.flow_top.specs.Words.{command_named, reads_records, writes_trace, has_workers, takes, with_file, with_value, options_in};
+ghost use Rattle.flow_top.specs.Words.{bare_request, most_workers, worker_count, up_to, count_in, demo_in, request_in};
+ghost use Rattle.flow_top.specs.Steps.{place_after, IsAsked};
 
 use flow_edge::Word;
 use lines::number_at;
@@ -21,6 +22,12 @@ pub enum Command {
 /// The most stages of a generated plant.
 const MOST_STAGES: u32 = 80;
 
+/// The most workers that can be asked for.
+const MOST_WORKERS: u32 = 32;
+
+/// How many workers there are where the words do not say it.
+const USUAL_WORKERS: u32 = 4;
+
 /// What the words ask for.
 #[derive(Clone, Copy, Debug, PartialEq, Eq)]
 pub struct Request {
@@ -29,6 +36,8 @@ pub struct Request {
     pub feeds: Option<u32>,
     /// The position of the word that names the file of the trace, counted from 1.
     pub journal: Option<u32>,
+    /// How many workers relax, 1 to 32.
+    pub workers: Option<u32>,
 }
 
 /// The positions of the words that name files, counted from 1.
@@ -76,6 +85,16 @@ pub fn writes_trace(command: Command) -> bool
     }
 }
 
+/// Whether a command relaxes with workers.
+fn has_workers(command: Command) -> bool
+    ensures { result ≡ has_workers command }
+{
+    match command {
+        Command::Run | Command::Demo { .. } => true,
+        Command::Direct | Command::Check => false,
+    }
+}
+
 /// Whether an option is one that the command has, and that is not given yet.
 #[tactic(auto, unfolding(crate::specs::Words::takes))]
 fn takes(request: Request, name: &[u8]) -> bool
@@ -83,10 +102,10 @@ fn takes(request: Request, name: &[u8]) -> bool
 {
     if name == b"--feeds".as_slice() {
         reads_records(request.command) && request.feeds.is_none()
+    } else if name == b"--journal".as_slice() {
+        writes_trace(request.command) && request.journal.is_none()
     } else {
-        name == b"--journal".as_slice()
-            && writes_trace(request.command)
-            && request.journal.is_none()
+        name == b"--workers".as_slice() && has_workers(request.command) && request.workers.is_none()
     }
 }
 
@@ -108,6 +127,22 @@ fn with_file(request: Request, name: &[u8], at: u32) -> Request
     }
 }
 
+/// The request with the value of an option, the word at this position, where it is one: a number of workers, or the name of a
+/// file, which is any word that is not empty.
+#[tactic(auto, unfolding(crate::specs::Words::with_value))]
+fn with_value(request: Request, name: &[u8], value: &[u8], at: u32) -> Option<Request>
+    ensures { result ≡ with_value name.now at value.now request }
+{
+    if name == b"--workers".as_slice() {
+        let workers = Some(count_in(value, MOST_WORKERS)?);
+        return Some(Request { workers, ..request });
+    }
+    if value.is_empty() {
+        return None;
+    }
+    Some(with_file(request, name, at))
+}
+
 /// The request with these options, the first of which begins at this position; or the position of the first word that does not fit,
 /// or one past the last where a word is missing.
 fn options_in(options: &[Word], at: u32, request: Request) -> Result<Request, u32>
@@ -118,9 +153,11 @@ fn options_in(options: &[Word], at: u32, request: Request) -> Result<Request, u3
         [] => Ok(request),
         [name, ..] if !takes(request, name.as_bytes()) => Err(at),
         [_] => Err(at + 1),
-        [_, file, ..] if file.as_bytes().is_empty() => Err(at + 1),
-        [name, _, rest @ ..] => {
-            options_in(rest, at + 2, with_file(request, name.as_bytes(), at + 1))
+        [name, value, rest @ ..] => {
+            match with_value(request, name.as_bytes(), value.as_bytes(), at + 1) {
+                None => Err(at + 1),
+                Some(more) => options_in(rest, at + 2, more),
+            }
         }
     }
 }
@@ -133,7 +170,18 @@ fn bare_request(command: Command) -> Request
         command,
         feeds: None,
         journal: None,
+        workers: None,
     }
+}
+
+/// How many workers relax: as many as are asked for, or the usual number.
+pub fn worker_count(request: Request) -> u32
+    requires { IsAsked request }
+    ensures count { result ≡ worker_count request }
+    ensures some { 1 ≤ result }
+    ensures few { result ≤ most_workers }
+{
+    request.workers.unwrap_or(USUAL_WORKERS)
 }
 
 /// A number from 1 to `most`.

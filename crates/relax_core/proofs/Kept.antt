@@ -1,43 +1,37 @@
--- What a board keeps stays with a step: its renewal is remembered in the room, and the numbers by the stream.
-use Rattle.std.proofs.Common.{◌≡◌, ◌∙◌, ◌<◌, ℕ, List, [], length, length-set, sym, subst, arith, Ok}
-use Rattle.std.specs.Prelude.{Result, slice_set, slice_index_or, Option, Some}
+-- What a board keeps stays with a step, whose numbers the stream remembers, and with a renewal, which its room remembers.
+use Rattle.std.proofs.Common.{◌≡◌, ◌∙◌, ◌<◌, ℕ, List, length, length-set, sym, subst, arith, Ok}
+use Rattle.std.specs.Prelude.{Result, slice_set, Option, Some}
+use Rattle.std.specs.declared.alloc.AllocError.{AllocError}
 use Rattle.relaxation.specs.Tube.{Tube}
 use Rattle.relaxation.specs.Core.{Versions, named, AreThere}
 use Rattle.plant_units.specs.Units.{units_of}
+use Rattle.plant.proofs.Lookups.{streams-counted}
 use Rattle.renewal.specs.Room.{planned, renewal_of}
 use Rattle.relax_core.specs.Board.{RowOf, BoardOf}
-use Rattle.relax_core.specs.Making.{IsPortOf, Appends}
+use Rattle.relax_core.specs.Making.{Appends}
 use Rattle.relax_core.specs.Rooms.{IsRoomFor, IsRenewedFrom, IsKept}
 use Rattle.relax_core.specs.declared.board.Stepped.{Stepped}
-use Rattle.relax_core.specs.declared.board.StepFault.{StepFault}
 use Rattle.relax_core.specs.declared.room.Room.{Room}
-use Rattle.relax_core.proofs.Boards.{board_of, streams-there}
+use Rattle.relax_core.proofs.Boards.{board_of, board-kept}
 use Rattle.relax_core.proofs.Remembered.{renewed-stays, met-stays, met-set}
 use Rattle.relax_core.proofs.Rooms.{rooms-set, renewed-set}
-use Rattle.relax_core.proofs.Steps.{appended-is, appended-few, appended-grown, appended-legal, appended-idle}
+use Rattle.relax_core.proofs.Steps.{MakesStep, appended-is, appended-few, appended-grown, appended-legal, appended-idle}
 
 module _ (board : BoardOf) (rooms : List Room) (met : List (Option (List ℕ))) (order : List ℕ)
-    (kept : IsKept board rooms met order)
-    (s : ℕ) (numbers : List ℕ) (u p : ℕ) (given : IsPortOf board.plan s u p)
-    (there : AreThere board.versions (planned board.plan u).reads numbers)
-    (room : Room) (fits : IsRoomFor board.plan u room)
-    (renewed : room.outputs ≡ renewal_of board.plan u (named board.versions (planned board.plan u).reads numbers))
-    (memory : room.renewed ≡ Some numbers) (tube : Tube)
-    (at : tube ≡ slice_index_or room.outputs.ports p []) where
-  -- the room, whatever is appended
-  pub kept-room : (result : Result Stepped StepFault) (more : Versions) (longer : List RowOf) →
+    (kept : IsKept board rooms met order) (s : ℕ) (numbers : List ℕ) (tube : Tube)
+    (makes : MakesStep board (record { stream = s; inputs = numbers }) tube) where
+  -- all, whatever is appended
+  pub kept-step : (result : Result Stepped AllocError) (more : Versions) (longer : List RowOf) →
       Appends result s tube numbers board.versions board.rows more longer →
-      IsKept (board_of board.plan more longer) (slice_set rooms u room) met order
-  kept-room result more longer h =
-      let grown = appended-grown board kept.steps s numbers u p given there room.outputs renewed tube at result more longer h in
-      let made = subst (IsRenewedFrom board.plan board.versions u room.outputs) (sym memory) (there, renewed) in
+      IsKept (board_of board.plan more longer) rooms met order
+  kept-step result more longer h =
+      let grown = appended-grown board kept.steps s numbers tube makes result more longer h in
       record {
-        steps = appended-is board kept.steps s numbers u p given there room.outputs renewed tube at result more longer h;
+        steps = appended-is board kept.steps s numbers tube makes result more longer h;
         few = appended-few result s tube numbers board.versions more board.rows longer
-            (omega (arith, streams-there board kept.steps, given.stream)) kept.few h;
-        rooms = rooms-set board.plan u room rooms kept.rooms given.unit fits;
-        renewed = renewed-stays board.versions more grown board.plan (slice_set rooms u room)
-            (renewed-set board.plan board.versions u room rooms kept.rooms kept.renewed given.unit made);
+            (omega (arith, (board-kept board kept.steps).counted, makes.legal.stream)) kept.few h;
+        rooms = kept.rooms;
+        renewed = renewed-stays board.versions more grown board.plan rooms kept.renewed;
         counted = kept.counted;
         met = met-stays board.versions more grown board.plan met kept.met;
         order = kept.order;
@@ -46,18 +40,19 @@ module _ (board : BoardOf) (rooms : List Room) (met : List (Option (List ℕ))) 
   -- and the numbers, where memory did not run out
   pub kept-numbers : (made : Stepped) (more : Versions) (longer : List RowOf) →
       Appends (Ok made) s tube numbers board.versions board.rows more longer →
-      IsKept (board_of board.plan more longer) (slice_set rooms u room) (slice_set met s (Some numbers)) order
+      IsKept (board_of board.plan more longer) rooms (slice_set met s (Some numbers)) order
   kept-numbers made more longer h =
-      let next = kept-room (Ok made) more longer h in
+      let next = kept-step (Ok made) more longer h in
       record {
         steps = next.steps;
         few = next.few;
         rooms = next.rooms;
         renewed = next.renewed;
         counted = length-set met s (Some numbers) ∙ next.counted;
-        met = met-set board.plan more met s numbers (omega (arith, next.counted, given.stream))
-            (appended-legal board kept.steps s numbers u p given there room.outputs renewed tube at made more longer h)
-            (appended-idle board kept.steps s numbers u p given there room.outputs renewed tube at made more longer h) next.met;
+        met = met-set board.plan more met s numbers
+            (omega (arith, next.counted, streams-counted board.plan.parts, makes.legal.stream))
+            (appended-legal board kept.steps s numbers tube makes made more longer h)
+            (appended-idle board kept.steps s numbers tube makes made more longer h) next.met;
         order = next.order;
       }
 

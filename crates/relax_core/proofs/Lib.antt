@@ -12,6 +12,7 @@ pub mod Remembered
 pub mod Renewals
 pub mod Replaced
 pub mod Rooms
+pub mod Rows
 pub mod Settled
 pub mod Steps
 pub mod Sweeping

@@ -1,8 +1,8 @@
 -- Where a meet has numbers, meeting a tube with another leaves it.
-use Rattle.std.proofs.Common.{◌≡◌, ◌∙◌, ℕ, zero, suc, ◌<◌, List, [], ◌∷◌, length, refl, sym, ap, subst, arith, true}
+use Rattle.std.proofs.Common.{◌≡◌, ◌∙◌, ℕ, zero, suc, ◌<◌, List, [], ◌∷◌, length, sym, ap, subst, arith, true}
 use Rattle.quant.specs.Interval.{Interval, AllBands, IsBand}
-use Rattle.relaxation.specs.Tube.{Tube, at, is_within, HasNumbers, meet, meet_bands}
-use Rattle.relaxation.proofs.Meets.{within-yes, meet-wider}
+use Rattle.relaxation.specs.Tube.{Tube, at, IsWithin, is_within, HasNumbers, meet, meet_bands}
+use Rattle.relaxation.proofs.Meets.{within-yes, within-itself, within-both, meet-wider, meet-holds, meet-right}
 use Rattle.tubes.specs.declared.tube.Met.{Met}
 use Rattle.tubes.specs.declared.tube.Met.TheVariants as met
 use Rattle.tubes.specs.Flat.{common, nth}
@@ -33,10 +33,7 @@ met-is (met.Empty t c) A B old new e shape numbers h =
     let first = subst (λ tube. IsFirstEmpty tube B t c) e h.0 in
     absurd (first.empty (common-has _ _ (place-common A B t c numbers shape first.tick first.channel)))
 
--- tubes of one shape have as many channels at each tick
-pub shape_at : (A B : Tube) (t : ℕ) → HasShapeOf A B → length (at A t) ≡ length (at B t)
-shape_at [] [] t e = refl
-shape_at [] (B ∷ Bs) t e = absurd cc
-shape_at (A ∷ As) [] t e = absurd cc
-shape_at (A ∷ As) (B ∷ Bs) zero e = cc
-shape_at (A ∷ As) (B ∷ Bs) (suc t) e = shape_at As Bs t (cc)
+-- the meet with a tube that lies in it is that tube
+pub meet-narrower : (A B : Tube) → IsWithin B A → meet A B ≡ B
+meet-narrower A B h =
+    within-both (meet A B) B (meet-right B A B h (within-itself B)) (meet-holds B A B h (within-itself B))

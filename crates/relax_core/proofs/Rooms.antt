@@ -2,7 +2,7 @@
 use Rattle.std.proofs.Common.{◌≡◌, ◌∙◌, ℕ, ◌+◌, ◌<◌, ◌^◌, List, [], ◌∷◌, ◌++◌, length, sym, ap, subst, arith, inl, inr, slice_index_or, length-set, get_or-set_same, get_or-set_other}
 use Rattle.std.specs.Prelude.{slice_set}
 use Rattle.std.proofs.lemmas.Bool.{cases_eq, cases_lt}
-use Rattle.std.proofs.lemmas.List.{length_push, get_or_append_left, get_or_push, get_or_past, get_or_default}
+use Rattle.std.proofs.lemmas.List.{length_push, get_or_append_left, get_or_push, get_or_past}
 use Rattle.std.proofs.lemmas.List.FromFn.{get_or-map-range_with_len, length-map-range_with_len}
 use Rattle.relaxation.specs.Core.{Versions, versions_of}
 use Rattle.renewal.specs.Plan.{PlanOf, window_of}
@@ -44,13 +44,7 @@ opening-few plan s =
           omega (arith, ap length none))
     ]
 
--- the room of a unit, and other room for it
-pub room-there : (plan : PlanOf) (u : ℕ) (room : Room) (rooms : List Room) → HasRooms plan rooms → u < length (units_of plan.parts) →
-    room ≡ slice_index_or rooms u room → IsRoomFor plan u room
-room-there plan u room rooms h l e =
-    subst (λ (found : Room). IsRoomFor plan u found)
-    (sym (e ∙ get_or_default rooms u room no_room (omega (arith, h.counted)))) (h.each u l)
-
+-- other room for a unit
 pub rooms-set : (plan : PlanOf) (u : ℕ) (room : Room) (rooms : List Room) → HasRooms plan rooms → u < length (units_of plan.parts) →
     IsRoomFor plan u room → HasRooms plan (slice_set rooms u room)
 rooms-set plan u room rooms h l r = record {
@@ -72,14 +66,7 @@ pub new-renewed : (plan : PlanOf) (state : Versions) (rooms : List Room) → Are
 new-renewed plan state rooms h u l =
     subst (IsRenewedFrom plan state u (slice_index_or rooms u no_room).outputs) (sym (h.each u l).none) tt
 
--- what the room of a unit remembers, and other room that does
-pub renewed-there : (plan : PlanOf) (state : Versions) (u : ℕ) (room : Room) (rooms : List Room) →
-    HasRooms plan rooms → AreRenewed plan state rooms → u < length (units_of plan.parts) →
-    room ≡ slice_index_or rooms u room → IsRenewedFrom plan state u room.outputs room.renewed
-renewed-there plan state u room rooms h r l e =
-    subst (λ (found : Room). IsRenewedFrom plan state u found.outputs found.renewed)
-    (sym (e ∙ get_or_default rooms u room no_room (omega (arith, h.counted)))) (r u l)
-
+-- and that remembers its renewal
 pub renewed-set : (plan : PlanOf) (state : Versions) (u : ℕ) (room : Room) (rooms : List Room) →
     HasRooms plan rooms → AreRenewed plan state rooms → u < length (units_of plan.parts) →
     IsRenewedFrom plan state u room.outputs room.renewed → AreRenewed plan state (slice_set rooms u room)

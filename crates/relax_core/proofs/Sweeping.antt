@@ -1,6 +1,6 @@
 -- A board goes on by steps, and by the turn of one stream more in a sweep.
 use Rattle.std.proofs.Common.{◌≡◌, ◌∙◌, ℕ, zero, suc, ◌+◌, ◌≤◌, List, [], ◌∷◌, ◌++◌, length, map, Contains}
-use Rattle.std.proofs.Common.{refl, sym, ap, subst, arith, inl, inr, true, false, cond, append_assoc}
+use Rattle.std.proofs.Common.{refl, sym, ap, subst, arith, inl, inr, true, false, append_assoc}
 use Rattle.std.specs.Prelude.{Bool, Ok, count_by, ◌==◌}
 use Rattle.std.proofs.lemmas.Bool.{cases_Bool}
 use Rattle.std.proofs.lemmas.List.{map-append, append-nil}
@@ -21,6 +21,7 @@ use Rattle.relax_core.specs.Board.{RowOf, BoardOf, rows_from}
 use Rattle.relax_core.specs.Settling.{after_steps, GoesOn}
 use Rattle.relax_core.specs.Turns.{Turns, TurnsFrom, IsSweeping}
 use Rattle.relax_core.proofs.Boards.{board_of}
+use Rattle.relax_core.proofs.Rows.{marks}
 
 module _ (window : Window) where
   -- the rows of steps after others
@@ -152,10 +153,6 @@ sweep-plan start turned narrows board h = ap (λ (b : BoardOf). b.plan) h.leads
 only_there : {X : Type 0} (x y : X) → Contains (x ∷ []) y → x ≡ y
 only_there x y (zero, l, e) = e
 only_there x y (suc k, l, e) = absurd (omega arith)
-
--- one for the stream itself, and none for another
-abbrev marks : ℕ → ℕ → ℕ
-marks n s = cond (n == s) 1 0
 
 -- a stream more
 turns-more : (turned : List ℕ) (n s : ℕ) →

@@ -1,20 +1,12 @@
--- A version that was made elsewhere, and what adopting it on a board answers.
-use Rattle.std.specs.Prelude.{◌≡◌, ◌≢◌, ◌<◌, ℕ, List, length, Result, Ok, Err}
-use Rattle.flowsheet.specs.Plant.{origin_of}
-use Rattle.relaxation.specs.Tube.{Tube, meet}
-use Rattle.relaxation.specs.Core.{Step, versions_of, last_of, step_renewal, IsLegal}
-use Rattle.plant_streams.specs.Streams.{streams_of}
-use Rattle.plant.specs.PlantOf.{plant_of}
-use Rattle.tubes.specs.Shape.{HasShapeOf, band_at}
-use Rattle.tubes.specs.Meeting.{IsFirstDifference}
+-- Versions that were made elsewhere, which a board can adopt one after another.
+use Rattle.std.specs.Prelude.{◌≡◌, ◌≤◌, ◌==◌, ℕ, List, map, count_by, Result, Ok, Err}
+use Rattle.relaxation.specs.Tube.{Tube}
+use Rattle.relaxation.specs.Core.{Step}
+use Rattle.relaxation.specs.Gathered.{Made, CanAdopt, CanAdoptAll}
 use Rattle.renewal.specs.Plan.{PlanOf, window_of}
-use Rattle.relax_core.specs.Board.{RowOf, BoardOf}
-use Rattle.relax_core.specs.Stepping.{reads_for, IsOutputOf, IsFirstMissing, Steps}
+use Rattle.relax_core.specs.Board.{RowOf, BoardOf, opened, after}
 use Rattle.relax_core.specs.declared.board.Stepped.{Stepped}
-use Rattle.relax_core.specs.declared.board.StepFault.{StepFault}
-use Rattle.relax_core.specs.declared.board.StepFault.TheVariants as step
-use Rattle.relax_core.specs.declared.made.AdoptFault.{AdoptFault}
-use Rattle.relax_core.specs.declared.made.AdoptFault.TheVariants as fault
+use Rattle.relax_core.specs.declared.board.Stepped.TheVariants.{Narrowed}
 
 -- version `number` of a stream, made from the version before it and the versions `refs` of what is read, in port order
 pub record MadeOf : Type 0 where
@@ -30,37 +22,27 @@ made_step made = record { stream = made.stream; inputs = made.refs }
 abbrev pub made_row : MadeOf → RowOf
 made_row made = record { stream = made.stream; version = made.number; refs = made.refs }
 
--- a unit of the plan gives its stream, it names a version for each input port, and its tube has the stream's shape
-pub record IsMadeFor (plan : PlanOf) (made : MadeOf) : Type 0 where
-  pub stream : made.stream < length (streams_of plan.parts)
-  pub given : IsOutputOf (origin_of (plant_of plan.parts) made.stream)
-  pub counted : length made.refs ≡ length (reads_for plan made.stream)
-  pub shape : HasShapeOf made.tube ((window_of plan).opening made.stream)
+-- the same as a version of its stream's history, whose maker nobody asks for
+abbrev pub made_version : MadeOf → Made
+made_version made = record {
+  stream = made.stream;
+  version = record { number = made.number; maker = 0; stamp = made.stamp; refs = made.refs; tube = made.tube };
+}
 
--- the meet of the stream's last version with the renewal from the named versions
-abbrev pub meet_of : BoardOf → MadeOf → Tube
-meet_of board made =
-    meet (last_of board.versions made.stream) (step_renewal (window_of board.plan) board.versions (made_step made))
+-- how many of them are of a stream
+abbrev pub made_of : List MadeOf → ℕ → ℕ
+made_of made s = count_by (λ (one : MadeOf). one.stream == s) made
 
--- its number is that of the stream's next version
-abbrev pub IsNext : BoardOf → MadeOf → Type 0
-IsNext board made = made.number ≡ length (versions_of board.versions made.stream)
+-- Each can be adopted in its turn on the board with which a plan opens, and of no stream there are more than 32.
+pub record AreAdoptable (plan : PlanOf) (made : List MadeOf) : Type 0 where
+  pub adopted : CanAdoptAll (window_of plan) (opened plan) (map made_version made)
+  pub few : (s : ℕ) → made_of made s ≤ 32
 
--- why a version is not adopted whose step was not made
-abbrev pub adopt_fault : StepFault → AdoptFault
-adopt_fault (step.NoSuchVersion input wanted have) = fault.NoSuchVersion input wanted have
-adopt_fault step.NoMemory = fault.NoMemory
+-- the version can be adopted on the board as it is
+abbrev pub IsAdoptable : BoardOf → MadeOf → Type 0
+IsAdoptable board made = CanAdopt (window_of board.plan) board.versions (made_version made)
 
--- The version is adopted by its step. Or it has another number; or a version that it names is not there; or its tube is not the
--- meet, first at this place; or memory ran out. In all of these the board stays.
-abbrev pub Adopts : Result Stepped AdoptFault → BoardOf → MadeOf → BoardOf → Type 0
-Adopts (Ok stepped) old made new = IsNext old made × (made.tube ≡ meet_of old made) × Steps (Ok stepped) old (made_step made) new
-Adopts (Err (fault.NotNext have)) old made new =
-    (have ≡ length (versions_of old.versions made.stream)) × (made.number ≢ have) × (new ≡ old)
-Adopts (Err (fault.NoSuchVersion input wanted have)) old made new =
-    IsNext old made × IsFirstMissing old (reads_for old.plan made.stream) made.refs input wanted have × (new ≡ old)
-Adopts (Err (fault.Differs tick channel theirs here)) old made new =
-    IsNext old made × IsLegal (window_of old.plan) old.versions (made_step made)
-    × IsFirstDifference made.tube (meet_of old made) tick channel × (theirs ≡ band_at made.tube tick channel)
-    × (here ≡ band_at (meet_of old made) tick channel) × (new ≡ old)
-Adopts (Err fault.NoMemory) old made new = new ≡ old
+-- the version is adopted by its step; or memory ran out, and the board stays
+abbrev pub Adopts : {E : Type 0} → Result Stepped E → BoardOf → MadeOf → BoardOf → Type 0
+Adopts (Ok stepped) old made new = (stepped ≡ Narrowed made.number) × (new ≡ after old (made_step made))
+Adopts (Err e) old made new = new ≡ old

@@ -1,6 +1,5 @@
 pub mod Adopting
 pub mod Board
-pub mod Judging
 pub mod Making
 pub mod Order
 pub mod Rooms

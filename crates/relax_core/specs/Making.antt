@@ -2,16 +2,17 @@
 -- The parts of which a step on a board is made.
 use Rattle.std.specs.Prelude.{◌≡◌, ◌+◌, ◌<◌, ◌^◌, ℕ, true, false, List, [], ◌∷◌, ◌++◌, length, slice_set}
 use Rattle.std.specs.Prelude.{Result, Ok, Err, Option, Some, None}
+use Rattle.std.specs.declared.alloc.AllocError.{AllocError}
 use Rattle.flowsheet.specs.Plant.{port, origin_of}
 use Rattle.relaxation.specs.Tube.{Tube, IsWithin, is_within, meet}
-use Rattle.relaxation.specs.Core.{Versions, Step, versions_of, version_at, last_of, AreThere, step_renewal, IsLegal}
+use Rattle.relaxation.specs.Core.{Versions, versions_of, version_at, last_of, AreThere}
 use Rattle.plant_streams.specs.Streams.{streams_of}
 use Rattle.plant_units.specs.Units.{units_of}
 use Rattle.plant.specs.PlantOf.{plant_of}
 use Rattle.renewal.specs.Plan.{PlanOf, window_of}
 use Rattle.renewal.specs.Room.{planned}
 use Rattle.relax_core.specs.Board.{RowOf, BoardOf}
-use Rattle.relax_core.specs.Stepping.{reads_for, IsFirstMissing}
+use Rattle.relax_core.specs.Stepping.{IsFirstMissing}
 use Rattle.relax_core.specs.declared.board.Stepped.{Stepped}
 use Rattle.relax_core.specs.declared.board.Stepped.TheVariants as stepped
 use Rattle.relax_core.specs.declared.board.StepFault.{StepFault}
@@ -37,7 +38,7 @@ FindsMissing (Some (fault.NoSuchVersion input wanted have)) state reads numbers 
 FindsMissing (Some fault.NoMemory) state reads numbers = ⊥
 
 -- the meet of a stream's last version with this tube is appended, with a row, where it is narrower; or nothing is
-abbrev pub Appends : Result Stepped StepFault → ℕ → Tube → List ℕ →
+abbrev pub Appends : Result Stepped AllocError → ℕ → Tube → List ℕ →
     Versions → List RowOf → Versions → List RowOf → Type 0
 Appends (Ok (stepped.Narrowed number)) s tube numbers state rows more longer =
     (is_within (last_of state s) tube ≡ false) × (number ≡ length (versions_of state s)) × (number + 1 < 2 ^ 32)
@@ -45,13 +46,4 @@ Appends (Ok (stepped.Narrowed number)) s tube numbers state rows more longer =
     × (longer ≡ rows ++ record { stream = s; version = length (versions_of state s); refs = numbers } ∷ [])
 Appends (Ok stepped.Same) s tube numbers state rows more longer =
     (is_within (last_of state s) tube ≡ true) × (more ≡ state) × (longer ≡ rows)
-Appends (Err (fault.NoSuchVersion input wanted have)) s tube numbers state rows more longer = ⊥
-Appends (Err fault.NoMemory) s tube numbers state rows more longer = (more ≡ state) × (longer ≡ rows)
-
--- the meet of the last version of a step's stream with its renewal; or a version that the step names is not there
-abbrev pub MeetsFrom : Result Tube StepFault → BoardOf → Step → Type 0
-MeetsFrom (Ok tube) board step = IsLegal (window_of board.plan) board.versions step
-    × (tube ≡ meet (last_of board.versions step.stream) (step_renewal (window_of board.plan) board.versions step))
-MeetsFrom (Err (fault.NoSuchVersion input wanted have)) board step =
-    IsFirstMissing board (reads_for board.plan step.stream) step.inputs input wanted have
-MeetsFrom (Err fault.NoMemory) board step = Unit {0}
+Appends (Err e) s tube numbers state rows more longer = (more ≡ state) × (longer ≡ rows)

@@ -1,8 +1,8 @@
 -- A board goes on by steps that narrow.
-use Rattle.std.specs.Prelude.{◌≡◌, ◌++◌, List}
+use Rattle.std.specs.Prelude.{◌≡◌, ◌≤◌, ◌==◌, ◌++◌, ℕ, List, count_by}
 use Rattle.relaxation.specs.Core.{Step, replay, AreLegal, AreNarrowing}
 use Rattle.renewal.specs.Plan.{window_of}
-use Rattle.relax_core.specs.Board.{BoardOf, rows_from}
+use Rattle.relax_core.specs.Board.{RowOf, BoardOf, rows_from}
 
 -- the board after these steps, each of which narrows
 abbrev pub after_steps : BoardOf → List Step → BoardOf
@@ -18,3 +18,9 @@ pub record GoesOn (old new : BoardOf) : Type 0 where
   pub legal : AreLegal (window_of old.plan) old.versions steps
   pub narrowing : AreNarrowing (window_of old.plan) old.versions steps
   pub leads : new ≡ after_steps old steps
+
+-- The rows begin with these, and of each stream at most so many follow them.
+pub record BeginWith (first : List RowOf) (most : ℕ) (rows : List RowOf) : Type 0 where
+  pub more : List RowOf
+  pub begin : rows ≡ first ++ more
+  pub few : (s : ℕ) → count_by (λ (row : RowOf). row.stream == s) more ≤ most

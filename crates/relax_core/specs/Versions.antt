@@ -1,6 +1,6 @@
 -- Words of the proofs: a reader of the contracts needs none of them.
 -- How the versions of a stream are kept: the newest as a tube, and of each older one the bands that the next replaced.
-use Rattle.std.specs.Prelude.{ℕ, ◌+◌, ◌≤◌, zero, suc, List, [], ◌∷◌, ◌++◌, length, take, drop}
+use Rattle.std.specs.Prelude.{ℕ, ◌+◌, ◌≤◌, zero, suc, List, [], ◌∷◌, length, take, drop}
 use Rattle.std.specs.List.{AllByRecursion}
 use Rattle.quant.specs.Interval.{Interval}
 use Rattle.relaxation.specs.Tube.{Tube}

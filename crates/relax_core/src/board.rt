@@ -6,10 +6,9 @@ ghost use Rattle.flowsheet.specs.Plant.{origin_of};
 ghost use Rattle.relaxation.specs.Tube.{at};
 ghost use Rattle.relaxation.specs.Core.{versions_of, last_of, named, AreThere, IsLegal, is_idle};
 ghost use Rattle.plant_units.specs.Units.{units_of};
-ghost use Rattle.tubes.specs.Shape.{HasShapeOf};
 ghost use Rattle.renewal.specs.Room.{planned, renewal_of};
 ghost use Rattle.relax_core.specs.Board.{IsBoard, opening_board};
-ghost use Rattle.relax_core.specs.Making.{MeetsFrom};
+ghost use Rattle.relax_core.specs.Adopting.{IsAdoptable, Adopts};
 ghost use Rattle.relax_core.specs.Order.{IsOrder};
 ghost use Rattle.relax_core.specs.Rooms.{AreNewRooms};
 ghost use Rattle.relax_core.specs.Settled.{window_on};
@@ -18,7 +17,8 @@ ghost use Rattle.relax_core.specs.Stepping.{reads_for, IsOutputOf, Steps};
 
 use crate::givers::giver;
 use crate::lines::Lines;
-use crate::making::{append, met, missing};
+use crate::made::Made;
+use crate::making::{append, missing};
 use crate::order::{STREAMS, flow_order};
 use crate::refs::remembers;
 use crate::room::Room;
@@ -236,28 +236,20 @@ impl<'p> Board<'p> {
         Ok(stepped)
     }
 
-    /// The meet of a stream's last version with its renewal from the versions with these numbers of what its unit
-    /// reads.
-    pub(crate) fn meet_from(
-        &mut self,
-        alloc: Global,
-        stream: u32,
-        versions: &[u32],
-    ) -> Result<Tube, StepFault>
-        requires stream { stream < length (streams_of self.old.plan.parts) }
-        requires given { IsOutputOf (origin_of (plant_of self.old.plan.parts) stream) }
-        requires counted { length versions.now ≡ length (reads_for self.old.plan stream) }
-        ensures meet { MeetsFrom result self.old (record { stream = stream; inputs = versions.now }) }
-        ensures shape { IfOk result (λ meet. HasShapeOf meet ((window_of self.old.plan).opening stream)) }
-        ensures stays { self.new ≡ self.old }
+    /// Makes the step of a version that was made elsewhere: appends its tube, which is the meet. Nothing is renewed.
+    pub fn adopt(&mut self, made: &Made) -> Result<Stepped, AllocError>
+        requires { IsAdoptable self.old made.now }
+        ensures { Adopts result self.old made.now self.new }
     {
-        let (unit, port) = giver(self.plan, stream);
-        if let Some(fault) = missing(self.plan, unit, &self.lines, versions) {
-            return Err(fault);
-        }
-        let room = &mut self.rooms[unit as usize];
-        room.renew(self.plan, unit, &self.lines, versions);
-        Ok(met(alloc, self.lines.last(stream), room.outputs.port(port))?)
+        let stepped = append(
+            &mut self.lines,
+            &mut self.rows,
+            made.stream,
+            &made.tube,
+            made.refs.as_slice(),
+        )?;
+        self.met[made.stream as usize] = Some(made.refs.copied());
+        Ok(stepped)
     }
 
     /// The bands of a unit's states at the tick after the window, by its renewal from the versions with these numbers

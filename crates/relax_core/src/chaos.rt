@@ -4,10 +4,11 @@ ghost use Rattle.std.specs.Prelude.{◌≡◌, ◌≤◌, ℕ, List, [], map, If
 ghost use Rattle.std.specs.Thread.{IsSync};
 ghost use Rattle.flow_edge.specs.Faults.{Rose};
 ghost use Rattle.relax_core.specs.Board.{RowOf};
-ghost use Rattle.relax_core.specs.Adopting.{made_row};
+ghost use Rattle.relax_core.specs.Adopting.{AreAdoptable, made_row};
 
 use crate::board::StepRow;
 use crate::made::Made;
+use flow_edge::Gate;
 use renewal::WindowPlan;
 use std::alloc::{AllocError, Global};
 use std::thread::Threads;
@@ -20,16 +21,19 @@ pub trait Chaos {
     /// The rows of the versions that it answered last.
     ghost answered: { Self → List RowOf };
 
-    /// Versions of the streams of a plan; what may be adopted of them is for the caller to judge.
+    /// Versions of the streams of a plan, each of which can be adopted in its turn on the board with which the plan opens, and at
+    /// most 32 of a stream.
     fn chaos<R: Threads + Sync>(
         &mut self,
         rt: &R,
         alloc: Global,
         plan: &WindowPlan<'_>,
+        gate: &(dyn Gate + Sync),
     ) -> Result<Vec<Made>, AllocError>
         requires { IsSync R.row }
         ensures asked { Rose (asked self.old) (asked self.new) }
         ensures counted { asked self.old ≤ asked self.new }
+        ensures adoptable { IfOk result (λ made. AreAdoptable plan.now made.items) }
         ensures rows { IfOk result (λ made. answered self.new ≡ map made_row made.items) }
         ensures none { OnErr result (answered self.new ≡ []) };
 
@@ -50,6 +54,16 @@ impl NoChaos {
     {
         NoChaos { asked: 0 }
     }
+
+    /// Counts that it was asked, and makes nothing. It takes no memory.
+    pub fn nothing(&mut self, alloc: Global) -> Vec<Made>
+        ensures asked { Rose self.old.asked self.new.asked }
+        ensures counted { self.old.asked ≤ self.new.asked }
+        ensures nothing { result.items ≡ [] }
+    {
+        self.asked = self.asked.saturating_add(1);
+        Vec::new(alloc)
+    }
 }
 
 impl Chaos for NoChaos {
@@ -62,14 +76,9 @@ impl Chaos for NoChaos {
         _rt: &R,
         alloc: Global,
         _plan: &WindowPlan<'_>,
-    ) -> Result<Vec<Made>, AllocError>
-        ensures asked { Rose self.old.asked self.new.asked }
-        ensures counted { self.old.asked ≤ self.new.asked }
-        ensures nothing { IfOk result (λ made. made.items ≡ []) }
-        ensures always { OnErr result ⊥ }
-    {
-        self.asked = self.asked.saturating_add(1);
-        Ok(Vec::new(alloc))
+        _gate: &(dyn Gate + Sync),
+    ) -> Result<Vec<Made>, AllocError> {
+        Ok(self.nothing(alloc))
     }
 
     fn rows(&self) -> &[StepRow] {

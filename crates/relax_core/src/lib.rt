@@ -25,6 +25,6 @@ pub use laws::{
     boards_have_versions, boards_keep_the_run, quiet_boards_are_settled,
     quiet_boards_carry_the_run, steps_keep_boards,
 };
-pub use made::{AdoptFault, Made};
+pub use made::Made;
 pub use tubes::Refs;
 pub use window::Window;

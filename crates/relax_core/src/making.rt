@@ -1,6 +1,6 @@
 //! The parts of which a step on a board is made.
 
-ghost use Rattle.std.specs.Prelude.{◌≡◌, ◌<◌, ◌≤◌, ◌^◌, ℕ, length, IfOk};
+ghost use Rattle.std.specs.Prelude.{◌≡◌, ◌<◌, ◌≤◌, ◌^◌, ℕ, length};
 ghost use Rattle.std.specs.List.{AllByRecursion};
 ghost use Rattle.plant_streams.specs.Streams.{streams_of};
 ghost use Rattle.plant_units.specs.Units.{units_of};
@@ -14,7 +14,7 @@ use crate::board::{StepFault, StepRow, Stepped};
 use crate::givers::reads;
 use crate::lines::Lines;
 use renewal::WindowPlan;
-use std::alloc::{AllocError, Global};
+use std::alloc::AllocError;
 use tubes::{Refs, Tube};
 
 /// The first input port at which the named version is not there.
@@ -56,42 +56,31 @@ pub(crate) fn missing(
     first_missing(lines, reads(plan, unit), versions)
 }
 
-/// The meet of a tube with another, in memory of its own.
-pub(crate) fn met(alloc: Global, tube: &Tube, other: &Tube) -> Result<Tube, AllocError>
-    requires shape { HasShapeOf tube.now other.now }
-    requires numbers { HasNumbers (meet tube.now other.now) }
-    ensures { IfOk result (λ made. made ≡ meet tube.now other.now) }
-{
-    let mut made = tube.copied(alloc)?;
-    let _met = made.meet_into(other);
-    Ok(made)
-}
-
-/// Appends the meet of a stream's last version with its renewal, and the row of the step, where that is narrower.
+/// Appends the meet of a stream's last version with a tube, and the row of the step, where that is narrower.
 pub(crate) fn append(
     lines: &mut Lines,
     rows: &mut Vec<StepRow>,
     stream: u32,
-    renewal: &Tube,
+    tube: &Tube,
     versions: &[u32],
-) -> Result<Stepped, StepFault>
+) -> Result<Stepped, AllocError>
     requires stream { stream < length lines.old }
     requires some { 0 < length (versions_of lines.old stream) }
     requires few { length (versions_of lines.old stream) < 2 ^ 32 }
-    requires shape { HasShapeOf (last_of lines.old stream) renewal.now }
-    requires numbers { HasNumbers (meet (last_of lines.old stream) renewal.now) }
+    requires shape { HasShapeOf (last_of lines.old stream) tube.now }
+    requires numbers { HasNumbers (meet (last_of lines.old stream) tube.now) }
     requires refs { length versions.now ≤ 8 }
-    ensures { Appends result stream renewal.now versions.now lines.old rows.old.items lines.new rows.new.items }
+    ensures { Appends result stream tube.now versions.now lines.old rows.old.items lines.new rows.new.items }
 {
-    if lines.last(stream).inside(renewal) {
+    if lines.last(stream).inside(tube) {
         return Ok(Stepped::Same);
     }
     let number = lines.count(stream) as u32;
     if number == u32::MAX {
-        return Err(StepFault::NoMemory);
+        return Err(AllocError);
     }
     rows.reserve(1)?;
-    lines.meet(stream, renewal)?;
+    lines.meet(stream, tube)?;
     rows.push_reserved(StepRow {
         stream,
         version: number,

@@ -10,7 +10,7 @@ ghost use Rattle.renewal.specs.Plan.{window_of};
 ghost use Rattle.renewal.specs.Room.{planned};
 ghost use Rattle.relax_core.specs.Board.{IsBoard};
 ghost use Rattle.relax_core.specs.Order.{IsOrder};
-ghost use Rattle.relax_core.specs.Settling.{GoesOn};
+ghost use Rattle.relax_core.specs.Settling.{GoesOn, BeginWith};
 ghost use Rattle.relax_core.specs.Turns.{IsGivenBy, StepsThere, Turns, Sweeps};
 
 use crate::board::{Board, StepFault, Stepped};
@@ -121,6 +121,7 @@ impl<'p> Board<'p> {
         ensures few { (s : ℕ) → s < length (streams_of self.old.plan.parts) →
             length (versions_of self.new.versions s) ≤ length (versions_of self.old.versions s)
             + self.old.plan.ticks * ((plant_of self.old.plan.parts).top + 1) }
+        ensures rows { BeginWith self.old.rows (self.old.plan.ticks * ((plant_of self.old.plan.parts).top + 1)) self.new.rows }
     {
         let mut room = [0; STREAMS];
         let count = self.write_order(&mut room);

@@ -27,6 +27,15 @@ pub trait Desk {
         ensures unit { IfSome result (λ unit. (unit < units self.now) × (left self.now seat.new < left self.now seat.old)) }
         ensures none { result ≡ None → ended self.now seat.new };
 
+    /// Whether the unit is worth a renewal from versions with this mark, which is greater where there are newer ones: not where
+    /// somebody claimed it with as great a mark before. Whatever it answers, a unit may be renewed or left alone.
+    fn claim(&self, unit: u32, mark: u64) -> bool
+        requires { unit < units self.now }
+    {
+        let _ = (unit, mark);
+        true
+    }
+
     /// Says that this unit may be worth a renewal.
     fn tell(&self, seat: &mut Self::Seat, unit: u32)
         requires seat { is_seat self.now seat.old }

@@ -1,6 +1,6 @@
 //! A desk that gives its units in turn.
 
-ghost use Rattle.std.specs.Prelude.{◌≡◌, ◌+◌, ◌*◌, ◌^◌, ◌<◌, ◌≤◌, ℕ, [], length, IfOk, IfSome, All, true, None};
+ghost use Rattle.std.specs.Prelude.{◌≡◌, ◌+◌, ◌*◌, ◌^◌, ◌<◌, ◌≤◌, ℕ, [], length, vec_len, IfOk, IfSome, All, true, None};
 ghost use Rattle.turn_desk.specs.Turns.{Draws, TakesTurn, left_of, new_pass};
 ghost use Rattle.turn_desk.specs.Passes.{IsPassOf, pass_view};
 ghost use Rattle.turn_desk.specs.Dealing.{IsFrom, MayBecome};
@@ -10,6 +10,7 @@ use crate::passes::{DeskPass, TurnDesk, TurnShared};
 use crate::view::{Drawing, OnePass, PassView};
 use atomic_table::{Seat, Table};
 use std::alloc::{AllocError, Global};
+use std::sync::atomic::{AtomicU64, Ordering};
 
 /// How many numbers there are for each unit.
 const ROUNDS: u32 = 32;
@@ -35,6 +36,17 @@ fn deal(
     Ok(passes)
 }
 
+// A mark for each unit, which nobody has claimed.
+fn unclaimed(alloc: Global, units: u32) -> Result<Vec<AtomicU64>, AllocError>
+    ensures { IfOk result (λ marks. vec_len marks ≡ units) }
+{
+    let mut marks = Vec::with_capacity(alloc, units as usize)?;
+    for _ in 0..units {
+        marks.push(AtomicU64::new(0))?;
+    }
+    Ok(marks)
+}
+
 impl TurnDesk {
     /// A desk for so many units, and a pass for each worker.
     pub fn open(
@@ -49,8 +61,17 @@ impl TurnDesk {
     {
         let limit = u64::from(ROUNDS * units);
         let (table, seat) = Table::of_words(alloc, &[0], &limit)?;
+        let marks = unclaimed(alloc, units)?;
         let passes = deal(alloc, &table.shared, seat, workers)?;
-        Ok((TurnDesk { table, units }, passes))
+        Ok((
+            TurnDesk {
+                table,
+                units,
+                marks,
+                alone: workers == 1,
+            },
+            passes,
+        ))
     }
 
     /// How many units there are.
@@ -103,6 +124,21 @@ impl Desk for TurnDesk {
             Some(number) => Some(number % self.units),
             None => None,
         }
+    }
+
+    /// A pass that is alone claims each unit once: what is new behind that is settled in the order of the flow, for less.
+    fn claim(&self, unit: u32, mark: u64) -> bool {
+        let claimed = &self.marks[unit as usize];
+        let before = claimed.load(Ordering::SeqCst);
+        let is_new = if self.alone {
+            before == 0
+        } else {
+            before < mark
+        };
+        is_new
+            && claimed
+                .compare_exchange(before, mark, Ordering::SeqCst, Ordering::SeqCst)
+                .is_ok()
     }
 
     fn tell(&self, seat: &mut DeskPass, unit: u32)

@@ -1,27 +1,21 @@
-//! The adoption of versions that were made elsewhere, as far as they can be.
+//! The adoption of versions that were made elsewhere.
 
-ghost use Rattle.std.specs.Prelude.{◌≡◌};
+ghost use Rattle.std.specs.Prelude.{◌≡◌, ◌++◌, map, OnOk};
+ghost use Rattle.relaxation.specs.Gathered.{CanAdoptAll};
+ghost use Rattle.renewal.specs.Plan.{window_of};
+ghost use Rattle.relax_core.specs.Adopting.{made_row, made_version};
 
-use relax_core::{AdoptFault, Board, Made};
-use std::alloc::{AllocError, Global};
+use relax_core::{Board, Made};
+use std::alloc::AllocError;
 
-/// Adopts versions in their order, up to the first that is not one for the board or that the board refuses.
-pub(crate) fn adopt_front(
-    alloc: Global,
-    board: &mut Board<'_>,
-    made: &[Made],
-) -> Result<(), AllocError>
-    ensures { board.new.plan ≡ board.old.plan }
+/// Adopts versions in their order.
+pub(crate) fn adopt_all(board: &mut Board<'_>, made: &[Made]) -> Result<(), AllocError>
+    requires { CanAdoptAll (window_of board.old.plan) board.old.versions (map made_version made.now) }
+    ensures plan { board.new.plan ≡ board.old.plan }
+    ensures rows { OnOk result (board.new.rows ≡ board.old.rows ++ map made_row made.now) }
 {
     for version in made {
-        if !version.is_for(board) {
-            return Ok(());
-        }
-        match board.adopt(alloc, version) {
-            Ok(_) => {}
-            Err(AdoptFault::NoMemory) => return Err(AllocError),
-            Err(_) => return Ok(()),
-        }
+        board.adopt(version)?;
     }
     Ok(())
 }

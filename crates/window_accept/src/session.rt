@@ -3,7 +3,7 @@
 use crate::end::WindowEnd;
 use crate::settling::{Settled, first_wide_of, settled_window};
 use feeds::{FeedReader, given_feeds_can_be_planned};
-use flow_edge::Source;
+use flow_edge::{Gate, Source};
 use plant::Plant;
 use relax_core::{Chaos, Window};
 use renewal::{Carried, WindowPlan, windows_carry_the_run};
@@ -41,8 +41,10 @@ impl Model for Session {
 }
 
 impl Session {
-    ghost use Rattle.std.specs.Prelude.{◌≡◌, ◌≤◌, true, None, IfOk, OnOk};
+    ghost use Rattle.std.specs.Prelude.{◌≡◌, ◌+◌, ◌*◌, true, None, IfOk, OnOk};
     ghost use Rattle.flow_edge.specs.Faults.{Rose};
+    ghost use Rattle.plant.specs.PlantOf.{plant_of};
+    ghost use Rattle.relax_core.specs.Settling.{BeginWith};
     ghost use Rattle.window_accept.specs.Session.{IsSession, IsGoingOn, opening_session, next_ticks, IsReady, NextWindow};
     ghost use Rattle.feeds.specs.ReaderOf.{feeding};
     ghost use Rattle.window_accept.specs.Making.{Plans, Makes};
@@ -101,26 +103,29 @@ impl Session {
         chaos: &mut C,
         feeds: &mut FeedReader,
         source: &mut E,
+        gate: &(dyn Gate + Sync),
     ) -> Result<Settled, WindowEnd>
         requires unended { self.now.end ≡ None }
         requires ready { IsReady self.now feeds.old }
         ensures makes { Makes self.now (feeding E.left E.faults feeds.old source.old) (feeding E.left E.faults feeds.new source.new) result }
         ensures asked { OnOk result (Rose (C.asked chaos.old) (C.asked chaos.new)) }
+        ensures steps { IfOk result (λ settled.
+            BeginWith (C.answered chaos.new) (next_ticks self.now * ((plant_of self.now.parts).top + 1)) settled.window.steps) }
     {
         windows_carry_the_run();
         if self.plant.parts().ticks <= self.tick {
             return Err(WindowEnd::Finished);
         }
         let plan = self.planned(alloc, feeds, source)?;
-        let settled = settled_window(rt, alloc, chaos, &plan)?;
+        let settled = settled_window(rt, alloc, chaos, &plan, gate)?;
         match first_wide_of(&plan, &settled.window) {
             Some(place) => Err(WindowEnd::Wide { place }),
             None => Ok(settled),
         }
     }
 
-    /// The next window: from the feeds that the reader gives, and the versions that `chaos` makes, so far as they can be adopted, it
-    /// is settled, and its widths are judged. An end is kept, and answered from then on.
+    /// The next window: from the feeds that the reader gives, and the versions that `chaos` makes, which are adopted, it is settled, and
+    /// its widths are judged. An end is kept, and answered from then on.
     pub fn next_window<R: Threads + Sync, C: Chaos, E: Source>(
         &mut self,
         rt: &R,
@@ -128,15 +133,18 @@ impl Session {
         chaos: &mut C,
         feeds: &mut FeedReader,
         source: &mut E,
+        gate: &(dyn Gate + Sync),
     ) -> Result<Window, WindowEnd>
         requires { IsReady self.old feeds.old }
         ensures next { NextWindow true self.old self.new (feeding E.left E.faults feeds.old source.old) (feeding E.left E.faults feeds.new source.new) result }
         ensures asked { OnOk result (Rose (C.asked chaos.old) (C.asked chaos.new)) }
+        ensures steps { IfOk result (λ window.
+            BeginWith (C.answered chaos.new) (next_ticks self.old * ((plant_of self.old.parts).top + 1)) window.steps) }
     {
         if let Some(end) = self.end {
             return Err(end);
         }
-        match self.made_window(rt, alloc, chaos, feeds, source) {
+        match self.made_window(rt, alloc, chaos, feeds, source, gate) {
             Ok(settled) => {
                 self.tick += settled.window.ticks;
                 self.carried = settled.carried;

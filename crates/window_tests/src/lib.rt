@@ -2,16 +2,4 @@
 #![tactic(auto)]
 
 #[cfg(test)]
-mod adoptions;
-#[cfg(test)]
-mod boards;
-#[cfg(test)]
-mod carrying;
-#[cfg(test)]
-mod renewals;
-#[cfg(test)]
-mod sessions;
-#[cfg(test)]
-mod trains;
-#[cfg(test)]
-mod windows;
+mod tests;

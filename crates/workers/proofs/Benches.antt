@@ -55,13 +55,13 @@ one-more old bench new left rest all e split is =
     ap (λ (bs : List Bench). map hand_of bs ++ rest) e ∙ (ap (λ (hs : List Hand). hs ++ rest) (map_push hand_of old bench)
     ∙ (append_assoc (map hand_of old) (hand_of bench ∷ []) rest ∙ (ap (λ hs. map hand_of old ++ hs) (sym split) ∙ is)))
 
-front : (xs ys : List Bench) → take (length xs) (xs ++ ys) ≡ xs
+front : {X : Type 0} (xs ys : List X) → take (length xs) (xs ++ ys) ≡ xs
 front [] [] = refl
 front [] (y ∷ ys) = refl
 front (x ∷ xs) ys = ap (λ l. x ∷ l) (front xs ys)
 
 -- what is written back in front of a list's end
-pub written : (xs ys : List Bench) (n : ℕ) → n ≡ length xs → take n (xs ++ ys) ≡ xs
+pub written : {X : Type 0} (xs ys : List X) (n : ℕ) → n ≡ length xs → take n (xs ++ ys) ≡ xs
 written xs ys n e = ap (λ k. take k (xs ++ ys)) e ∙ front xs ys
 
 -- the hands that are left once the benches are written back

@@ -1,3 +1,4 @@
+-- Words of the proofs: a reader of the contracts needs none of them.
 -- The cells of a window's streams, and the hands of the workers that share them.
 use Rattle.std.specs.Prelude.{◌≡◌, ◌<◌, ℕ, List, length, slice_index_or}
 use Rattle.plant_streams.specs.Streams.{streams_of}

@@ -1,4 +1,5 @@
 pub mod Answers
 pub mod Benches
+pub mod Cells
 pub mod Gathering
 pub mod Working

@@ -4,17 +4,23 @@ ghost use Rattle.std.specs.Prelude.{◌≡◌, ◌<◌, ◌≤◌, length, map, 
 ghost use Rattle.std.specs.Thread.{IsSync};
 ghost use Rattle.plant_units.specs.Units.{units_of};
 ghost use Rattle.renewal.specs.Plan.{IsPlan};
+ghost use Rattle.relax_core.specs.Adopting.{AreAdoptable};
 ghost use Rattle.turn_desk.specs.Passes.{IsPassOf};
 ghost use Rattle.workers.specs.Benches.{AreShared};
 ghost use Rattle.workers.specs.Working.{AreBenches, IsBench, IsReady, hand_of};
 
+use crate::closing::close_cells;
+use crate::gathering::gather;
+use crate::opening::open_cells;
 use flow_edge::Gate;
+use relax_core::Made;
+use relaxation::gathered_histories_are_adopted;
 use renewal::WindowPlan;
 use std::alloc::{AllocError, Global};
 use std::thread::{self, Threads};
 use stream_cell::StreamCell;
 use turn_desk::{DeskPass, TurnDesk};
-use worker::{Hand, Room, work};
+use worker::{Hand, Room, known_histories_are_sound, work};
 
 /// What one worker works with.
 #[derive(Drop)]
@@ -70,13 +76,13 @@ fn hands_of(alloc: Global, benches: Vec<Bench>) -> Result<Vec<Hand>, AllocError>
 }
 
 /// Runs the workers beside each other, each to its seat's first none.
-fn run<R: Threads + Sync, G: Gate + Sync>(
+fn run<R: Threads + Sync>(
     rt: &R,
     plan: &WindowPlan<'_>,
     cells: &[StreamCell],
     desk: &TurnDesk,
     benches: &mut [Bench],
-    gate: &G,
+    gate: &(dyn Gate + Sync),
 )
     requires sync { IsSync R.row }
     requires units { desk.now.units ≡ length (units_of plan.now.parts) }
@@ -111,13 +117,13 @@ fn run<R: Threads + Sync, G: Gate + Sync>(
 
 /// Runs a worker for each hand beside the others, each in a thread of its own where one can be made, until their desk gives no
 /// more units; gives the hands back. Desk and rooms are made before the first worker starts. No worker waits for another.
-pub fn relax_cells<R: Threads + Sync, G: Gate + Sync>(
+pub(crate) fn relax_cells<R: Threads + Sync>(
     rt: &R,
     alloc: Global,
     plan: &WindowPlan<'_>,
     cells: &[StreamCell],
     hands: Vec<Hand>,
-    gate: &G,
+    gate: &(dyn Gate + Sync),
 ) -> Result<Vec<Hand>, AllocError>
     requires sync { IsSync R.row }
     requires some { 1 ≤ length hands.items }
@@ -131,4 +137,26 @@ pub fn relax_cells<R: Threads + Sync, G: Gate + Sync>(
     let mut benches = benches(alloc, plan, &desk, hands, seats)?;
     run(rt, plan, cells, &desk, &mut benches, gate);
     hands_of(alloc, benches)
+}
+
+/// What so many workers make of a plan's streams, by stamp and then stream: each can be adopted in its turn on the board with
+/// which the plan opens. All cells, the desk and each worker's room are made before the first worker starts.
+pub fn relax<R: Threads + Sync>(
+    rt: &R,
+    alloc: Global,
+    plan: &WindowPlan<'_>,
+    workers: u32,
+    gate: &(dyn Gate + Sync),
+) -> Result<Vec<Made>, AllocError>
+    requires sync { IsSync R.row }
+    requires some { 1 ≤ workers }
+    requires few { workers ≤ 32 }
+    ensures { IfOk result (λ made. AreAdoptable plan.now made.items) }
+{
+    known_histories_are_sound();
+    gathered_histories_are_adopted();
+    let (cells, hands) = open_cells(alloc, plan, workers)?;
+    let hands = relax_cells(rt, alloc, plan, &cells, hands, gate)?;
+    let histories = close_cells(alloc, cells, hands)?;
+    gather(alloc, &histories)
 }

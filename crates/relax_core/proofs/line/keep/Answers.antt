@@ -1,5 +1,5 @@
 -- The bands are appended at once, or nothing is.
-use Rattle.std.proofs.Common.{◌≡◌, ◌∙◌, List, [], ◌++◌, ap, sym, append-nil, if◌then◌else◌, Result, Ok, Err}
+use Rattle.std.proofs.Common.{◌≡◌, ◌∙◌, List, [], ◌++◌, sym, append-nil, if◌then◌else◌, Result, Ok, Err}
 use Rattle.std.specs.Prelude.{is_ok}
 use Rattle.quant.specs.Interval.{Interval}
 use Rattle.relax_core.proofs.line.keep.Goals as goal

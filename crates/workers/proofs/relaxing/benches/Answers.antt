@@ -4,7 +4,7 @@ use Rattle.std.specs.Vec.Iter.{into_iter_items}
 use Rattle.turn_desk.specs.declared.passes.DeskPass.{DeskPass}
 use Rattle.turn_desk.specs.Passes.{IsPassOf}
 use Rattle.workers.specs.declared.relaxing.Bench.{Bench}
-use Rattle.workers.specs.Working.{IsReady, hand_of}
+use Rattle.workers.specs.Working.{IsReady}
 use Rattle.workers.proofs.Benches.{one-more}
 use Rattle.workers.proofs.relaxing.benches.Goals as goal
 

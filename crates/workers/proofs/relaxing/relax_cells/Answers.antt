@@ -1,9 +1,8 @@
-use Rattle.std.proofs.Common.{◌≡◌, ◌∙◌, List, drop, length, map, sym, ap, subst}
+use Rattle.std.proofs.Common.{◌≡◌, ◌∙◌, List, drop, length, sym, ap, subst}
 use Rattle.std.proofs.lemmas.Result.{IfOk-weaker}
-use Rattle.worker.specs.declared.hand.Hand.{Hand}
 use Rattle.workers.specs.declared.relaxing.Bench.{Bench}
 use Rattle.workers.specs.Benches.{AreShared}
-use Rattle.workers.specs.Working.{AreBenches, hand_of}
+use Rattle.workers.specs.Working.{AreBenches}
 use Rattle.workers.proofs.Benches.{benches-shared, left-counted, left-shared}
 use Rattle.workers.proofs.relaxing.relax_cells.Goals as goal
 

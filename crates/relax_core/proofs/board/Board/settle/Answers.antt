@@ -6,6 +6,7 @@ use Rattle.relax_core.specs.Board.{BoardOf}
 use Rattle.relax_core.specs.Order.{IsOrder}
 use Rattle.relax_core.specs.Turns.{IsSweeping}
 use Rattle.relax_core.proofs.Orders.{order-once, front-once}
+use Rattle.relax_core.proofs.Rows.{goes-begin}
 use Rattle.relax_core.proofs.Settled.{IsSettling, plan-same, settling_none, settling-more, settling-few, settling-quiet}
 use Rattle.relax_core.proofs.Settled.{sweeping-few, sweep-quiet}
 use Rattle.relax_core.proofs.Sweeping.{goes_further, sweep-goes}
@@ -47,6 +48,10 @@ returns-in_err-sweep-clause-few c = λ s l.
     (omega (arith, c.places-end.ensures.places, c.loop-test.true)) (take began.0 order) _ c.sweep.new.self began.1 s
     (front-once c.args.self.now.plan order c.write_order-count.ensures.order began.0 s)
 
+pub returns-in_err-sweep-clause-rows : goal.returns-in_err-sweep-clause-rows
+returns-in_err-sweep-clause-rows c = goes-begin c.args.self.now c.sweep.new.self c.places-end.ensures.board
+    (returns-in_err-sweep-clause-longer c) _ (returns-in_err-sweep-clause-few c)
+
 pub returns-then-not-branch-clause-quiet : goal.returns-then-not-branch-clause-quiet
 returns-then-not-branch-clause-quiet c =
     let start = c.args.self.now in
@@ -69,6 +74,10 @@ returns-then-not-branch-clause-few c = λ s l.
     (omega (arith, c.places-end.ensures.places, c.loop-test.true)) order c.in_ok-sweep.field-0 c.sweep.new.self
     c.in_ok-sweep.ensures s (order-once c.args.self.now.plan order c.write_order-count.ensures.order s)
 
+pub returns-then-not-branch-clause-rows : goal.returns-then-not-branch-clause-rows
+returns-then-not-branch-clause-rows c = goes-begin c.args.self.now c.sweep.new.self c.places-end.ensures.board
+    (returns-then-not-branch-clause-longer c) _ (returns-then-not-branch-clause-few c)
+
 pub returns-clause-quiet : goal.returns-clause-quiet
 returns-clause-quiet c = settling-quiet c.args.self.now c.loop.counter c.loop.self c.loop.invariant
     c.places-end.ensures.board (omega (arith, c.places-end.ensures.places, c.loop-test.false))
@@ -84,3 +93,7 @@ returns-clause-few c = λ s l.
       c.loop.auto.counter-end,
       settling-few c.args.self.now c.loop.counter c.loop.self c.loop.invariant c.places-end.ensures.board s,
     )
+
+pub returns-clause-rows : goal.returns-clause-rows
+returns-clause-rows c = goes-begin c.args.self.now c.loop.self c.places-end.ensures.board (returns-clause-longer c) _
+    (returns-clause-few c)

@@ -1,0 +1,6 @@
+mod calls;
+mod cases;
+mod records;
+mod runs;
+mod sources;
+mod written;

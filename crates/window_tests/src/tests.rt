@@ -1,0 +1,7 @@
+mod adoptions;
+mod boards;
+mod carrying;
+mod renewals;
+mod sessions;
+mod trains;
+mod windows;
