@@ -1,0 +1,4 @@
+pub mod Joining
+pub mod Starting
+pub mod Stealing
+pub mod Taken

@@ -1,0 +1,8 @@
+pub mod Deques
+pub mod Drawing
+pub mod Making
+pub mod Opening
+pub mod Pushing
+pub mod Seats
+pub mod Steps
+pub mod Taking
