@@ -11,7 +11,7 @@ use Rattle.turn_desk.specs.declared.passes.DeskPass.{DeskPass}
 use Rattle.steal_desk.specs.declared.view.DequeView.{DequeView}
 use Rattle.steal_desk.specs.declared.seats.Other.{Other}
 use Rattle.steal_desk.specs.declared.seats.StealSeat.{StealSeat}
-use Rattle.steal_desk.specs.Making.{AreAdded, AreLinked, IsCut, IsJoined, IsNewOther, IsSeatWith, others_of, told_of, with_others}
+use Rattle.steal_desk.specs.Making.{AreAdded, AreLinked, IsCut, IsJoined, IsNewOther, IsSeatWith, others_of, told_of, units_among, with_others}
 use Rattle.steal_desk.specs.declared.seats.StealDesk.{StealDesk}
 use Rattle.steal_desk.specs.Deques.{new_pass}
 use Rattle.steal_desk.specs.Opening.{AreJoined, AreNewSeats, deques_of}
@@ -150,3 +150,12 @@ module _ (units : ℕ) (olds news : List StealSeat) (t : AreLinked units (length
 
 pub lent : (P : List StealSeat → Type 0) (n : ℕ) (olds news : List StealSeat) → length olds ≡ n → length news ≡ length olds → P news → P (take n (news ++ drop (length news) olds))
 lent P n olds news long same p = subst P (sym (given-back n news olds (sym long) same)) p
+
+-- new seats of a desk have as many units as the first of them
+pub same-units : (desk : StealDesk) (workers : ℕ) (seats : List StealSeat) → AreNewSeats desk workers seats →
+    All (IsSeatWith (units_among seats)) seats
+same-units desk workers [] h = λ k d l. absurd (omega arith)
+same-units desk workers (seat ∷ seats) h = λ k d l.
+    let one = h k d l in
+    let first = h 0 seat (omega arith) in
+    (one.of_desk.deques, one.of_desk.units ∙ sym first.of_desk.units)

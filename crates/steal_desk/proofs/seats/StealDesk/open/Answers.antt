@@ -1,10 +1,16 @@
-use Rattle.std.proofs.Common.{◌∙◌, List, ap, length, subst, sym}
+use Rattle.std.proofs.Common.{◌∙◌, List, All, ap, length, subst, sym}
 use Rattle.steal_desk.specs.declared.seats.StealDesk.{StealDesk}
 use Rattle.steal_desk.specs.declared.seats.StealSeat.{StealSeat}
-use Rattle.steal_desk.specs.Making.{AreLinked, units_among}
+use Rattle.steal_desk.specs.Making.{AreLinked, IsSeatWith, units_among}
 use Rattle.steal_desk.specs.Opening.{AreJoined, AreNewSeats}
-use Rattle.steal_desk.proofs.Joining.{as-many, joined, lent, new-seats}
+use Rattle.steal_desk.proofs.Joining.{as-many, joined, lent, new-seats, same-units}
 use Rattle.steal_desk.proofs.seats.StealDesk.open.Goals as goal
+
+pub join-requires : goal.join-requires
+join-requires c =
+    let desk : StealDesk = record { turns = c.in_ok-turns.turns } in
+    subst (λ (l : List StealSeat). All (IsSeatWith (units_among l)) l) (sym c.deref_mut.ensures.value)
+    (same-units desk c.args.workers c.in_ok-seats.seats.items c.in_ok-seats.ensures.seats)
 
 pub returns-clause-seats : goal.returns-clause-seats
 returns-clause-seats c =
